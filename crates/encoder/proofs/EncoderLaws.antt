@@ -1,0 +1,123 @@
+-- What the functions of src/lib.rt cite: for each kind, the range in which an operation encodes and its word, for every
+-- element size at once. What a row asks of an operation is computed from the table.
+-- Assumes nothing.
+use Prim.Native.Nat.{ℕ, _+_, _*_, _-_, _%_, _≤_, _<_}
+use mathlib.Core.Path.{_≡_, refl}
+use mathlib.Core.Bool.{Bool, true, false}
+use native.Mathlib.Omega.{arith}
+use Rattle.encoding.specs.Flat.{directionNumber, registersOf, bytesOf}
+use Rattle.encoding.specs.Table.{table}
+use Rattle.encoding.specs.Codec.{Encodes, rowOfNumbers}
+use Rattle.encoding.specs.Steps.{sizeBits, arrayMove, arrayBits}
+use Rattle.encoder.specs.Steps.{offsetCount}
+use Rattle.encoding.specs.declared.operation.ElementSize.{ElementSize}
+use Rattle.encoding.specs.declared.operation.ElementSize.the-variants.{Bits8, Bits16, Bits32, Bits64, Bits128}
+use Rattle.encoding.specs.declared.operation.Direction.{Direction}
+use Rattle.encoding.specs.declared.operation.Direction.the-variants.{Horizontal, Vertical}
+use Rattle.encoding.specs.declared.operation.RegisterCount.{RegisterCount}
+use Rattle.encoding.specs.declared.operation.RegisterCount.the-variants.{Two, Four}
+use Rattle.encoding.specs.declared.operation.Operation.the-variants.{MovaToTile, MovazFromTile, St1}
+use Rattle.encoding.specs.declared.operation.Encoded.the-variants.{Word, OutOfRange}
+use Rattle.encoding.proofs.CodecLaws.{encodes-as, refuses-as, refuses-none}
+
+direction-below : (d : Direction) → directionNumber d < 2
+direction-below Horizontal = omega arith
+direction-below Vertical = omega arith
+
+module _ (d : Direction) (rs pg zn zad off : ℕ) where
+  abbrev pub ToTileRange : ElementSize → Type 0
+  ToTileRange m = (12 ≤ rs) × (rs ≤ 15) × (pg ≤ 7) × (zn ≤ 31) × (zad < bytesOf m) × (off < offsetCount m)
+
+  abbrev pub toTileWord : ElementSize → ℕ
+  toTileWord m = 0xC0000000 + sizeBits m * 65536 + directionNumber d * 32768 + (rs - 12) * 8192 + pg * 1024 + zn * 32 + (zad * offsetCount m + off)
+
+  pub to-tile-encodes : (m : ElementSize) (v : ℕ) → ToTileRange m → v ≡ toTileWord m → Encodes (MovaToTile (record { size = m; direction = d; rs = rs; pg = pg; zn = zn; zad = zad; off = off })) (Word v)
+  unfolding table rowOfNumbers
+  to-tile-encodes Bits8 v h e = encodes-as _ _ v refl (omega (arith, direction-below d)) (omega arith)
+  to-tile-encodes Bits16 v h e = encodes-as _ _ v refl (omega (arith, direction-below d)) (omega arith)
+  to-tile-encodes Bits32 v h e = encodes-as _ _ v refl (omega (arith, direction-below d)) (omega arith)
+  to-tile-encodes Bits64 v h e = encodes-as _ _ v refl (omega (arith, direction-below d)) (omega arith)
+  to-tile-encodes Bits128 v h e = encodes-as _ _ v refl (omega (arith, direction-below d)) (omega arith)
+
+  pub to-tile-refuses : (m : ElementSize) → (ToTileRange m → ⊥) → Encodes (MovaToTile (record { size = m; direction = d; rs = rs; pg = pg; zn = zn; zad = zad; off = off })) OutOfRange
+  unfolding table rowOfNumbers
+  to-tile-refuses Bits8 h = refuses-as _ _ refl (λ k. h (omega arith))
+  to-tile-refuses Bits16 h = refuses-as _ _ refl (λ k. h (omega arith))
+  to-tile-refuses Bits32 h = refuses-as _ _ refl (λ k. h (omega arith))
+  to-tile-refuses Bits64 h = refuses-as _ _ refl (λ k. h (omega arith))
+  to-tile-refuses Bits128 h = refuses-as _ _ refl (λ k. h (omega arith))
+
+module _ (d : Direction) (rs zan off zd : ℕ) where
+  abbrev pub FromTileRange : ElementSize → Type 0
+  FromTileRange m = (12 ≤ rs) × (rs ≤ 15) × (zan < bytesOf m) × (off < offsetCount m) × (zd ≤ 31)
+
+  abbrev pub fromTileWord : ElementSize → ℕ
+  fromTileWord m = 0xC0020200 + sizeBits m * 65536 + directionNumber d * 32768 + (rs - 12) * 8192 + (zan * offsetCount m + off) * 32 + zd
+
+  pub from-tile-encodes : (m : ElementSize) (v : ℕ) → FromTileRange m → v ≡ fromTileWord m → Encodes (MovazFromTile (record { size = m; direction = d; rs = rs; zan = zan; off = off; zd = zd })) (Word v)
+  unfolding table rowOfNumbers
+  from-tile-encodes Bits8 v h e = encodes-as _ _ v refl (omega (arith, direction-below d)) (omega arith)
+  from-tile-encodes Bits16 v h e = encodes-as _ _ v refl (omega (arith, direction-below d)) (omega arith)
+  from-tile-encodes Bits32 v h e = encodes-as _ _ v refl (omega (arith, direction-below d)) (omega arith)
+  from-tile-encodes Bits64 v h e = encodes-as _ _ v refl (omega (arith, direction-below d)) (omega arith)
+  from-tile-encodes Bits128 v h e = encodes-as _ _ v refl (omega (arith, direction-below d)) (omega arith)
+
+  pub from-tile-refuses : (m : ElementSize) → (FromTileRange m → ⊥) → Encodes (MovazFromTile (record { size = m; direction = d; rs = rs; zan = zan; off = off; zd = zd })) OutOfRange
+  unfolding table rowOfNumbers
+  from-tile-refuses Bits8 h = refuses-as _ _ refl (λ k. h (omega arith))
+  from-tile-refuses Bits16 h = refuses-as _ _ refl (λ k. h (omega arith))
+  from-tile-refuses Bits32 h = refuses-as _ _ refl (λ k. h (omega arith))
+  from-tile-refuses Bits64 h = refuses-as _ _ refl (λ k. h (omega arith))
+  from-tile-refuses Bits128 h = refuses-as _ _ refl (λ k. h (omega arith))
+
+module _ (rv off zd : ℕ) where
+  abbrev pub ArrayRange : Bool → RegisterCount → Type 0
+  ArrayRange z n = (0 < arrayBits z n) × (8 ≤ rv) × (rv ≤ 11) × (off ≤ 7) × (zd ≤ 31) × (zd % registersOf n ≡ 0)
+
+  abbrev pub arrayWord : Bool → RegisterCount → ℕ
+  arrayWord z n = 0xC0060000 + (rv - 8) * 8192 + arrayBits z n * 256 + off * 32 + zd
+
+  pub array-encodes : (z : Bool) (n : RegisterCount) (v : ℕ) → ArrayRange z n → v ≡ arrayWord z n → Encodes (arrayMove z (record { registers = n; rv = rv; off = off; zd = zd })) (Word v)
+  unfolding table rowOfNumbers
+  array-encodes true Two v h e = encodes-as _ _ v refl (omega arith) (omega arith)
+  array-encodes true Four v h e = absurd (omega arith)
+  array-encodes false Two v h e = absurd (omega arith)
+  array-encodes false Four v h e = encodes-as _ _ v refl (omega arith) (omega arith)
+
+  pub array-refuses : (z : Bool) (n : RegisterCount) → (ArrayRange z n → ⊥) → Encodes (arrayMove z (record { registers = n; rv = rv; off = off; zd = zd })) OutOfRange
+  unfolding table rowOfNumbers
+  array-refuses true Two h = refuses-as _ _ refl (λ k. h (omega arith))
+  array-refuses true Four h = refuses-none _ refl
+  array-refuses false Two h = refuses-none _ refl
+  array-refuses false Four h = refuses-as _ _ refl (λ k. h (omega arith))
+
+module _ (d : Direction) (rs pg rn rm zat imm : ℕ) where
+  abbrev pub StoreRange : ElementSize → Type 0
+  StoreRange m = (bytesOf m ≡ 1) × (12 ≤ rs) × (rs ≤ 15) × (pg ≤ 7) × (rn ≤ 31) × (rm ≤ 31) × (zat ≡ 0) × (imm ≤ 15)
+
+  abbrev pub storeWord : ℕ
+  storeWord = 0xE0200000 + rm * 65536 + directionNumber d * 32768 + (rs - 12) * 8192 + pg * 1024 + rn * 32 + imm
+
+  pub store-encodes : (m : ElementSize) (v : ℕ) → StoreRange m → v ≡ storeWord → Encodes (St1 (record { size = m; direction = d; rs = rs; pg = pg; rn = rn; rm = rm; zat = zat; imm = imm })) (Word v)
+  unfolding table rowOfNumbers
+  store-encodes Bits8 v h e = encodes-as _ _ v refl (omega (arith, direction-below d)) (omega arith)
+  store-encodes Bits16 v h e = absurd (omega arith)
+  store-encodes Bits32 v h e = absurd (omega arith)
+  store-encodes Bits64 v h e = absurd (omega arith)
+  store-encodes Bits128 v h e = absurd (omega arith)
+
+  pub store-refuses : (m : ElementSize) → (StoreRange m → ⊥) → Encodes (St1 (record { size = m; direction = d; rs = rs; pg = pg; rn = rn; rm = rm; zat = zat; imm = imm })) OutOfRange
+  unfolding table rowOfNumbers
+  store-refuses Bits8 h = refuses-as _ _ refl (λ k. h (omega arith))
+  store-refuses Bits16 h = refuses-none _ refl
+  store-refuses Bits32 h = refuses-none _ refl
+  store-refuses Bits64 h = refuses-none _ refl
+  store-refuses Bits128 h = refuses-none _ refl
+
+-- tile and offset in range fit their four bits
+pub shared-below : (m : ElementSize) (t o : ℕ) → t < bytesOf m → o < offsetCount m → t * offsetCount m + o < 16
+shared-below Bits8 t o h k = omega arith
+shared-below Bits16 t o h k = omega arith
+shared-below Bits32 t o h k = omega arith
+shared-below Bits64 t o h k = omega arith
+shared-below Bits128 t o h k = omega arith

@@ -1,0 +1,236 @@
+// Encoding: the word that stands for an operation (document 01 §4), or a refusal where a field is
+// outside its range or the table has no row for the form.
+ghost use mathlib.Core.Path.{_≡_};
+ghost use Prim.Native.Nat.{_+_, _*_, _<_};
+ghost use Rattle.encoding.specs.Codec.{Encodes};
+ghost use Rattle.encoding.specs.Flat.{bytesOf};
+ghost use Rattle.encoding.specs.Steps.{sizeBits, arrayMove, arrayBits};
+ghost use Rattle.encoder.specs.Steps.{offsetCount};
+use encoding::Direction;
+use encoding::ElementSize;
+use encoding::Encoded;
+use encoding::Operation;
+use encoding::RegisterCount;
+
+// The word of an operation. Its parts go on as plain numbers to the function of its kind.
+pub fn encode(operation: Operation) -> Encoded
+    ensures { λ r. ⌜ Encodes operation r ⌝ }
+{
+    match operation {
+        Operation::MovaToTile(o) => {
+            let size = o.size;
+            let direction = o.direction;
+            encode_to_tile(size, direction, o.rs, o.pg, o.zn, o.zad, o.off)
+        }
+        Operation::MovazFromTile(o) => {
+            let size = o.size;
+            let direction = o.direction;
+            encode_from_tile(size, direction, o.rs, o.zan, o.off, o.zd)
+        }
+        Operation::MovaFromArray(o) => {
+            let registers = o.registers;
+            encode_array(false, registers, o.rv, o.off, o.zd)
+        }
+        Operation::MovazFromArray(o) => {
+            let registers = o.registers;
+            encode_array(true, registers, o.rv, o.off, o.zd)
+        }
+        Operation::St1(o) => {
+            let size = o.size;
+            let direction = o.direction;
+            encode_store(size, direction, o.rs, o.pg, o.rn, o.rm, o.zat, o.imm)
+        }
+    }
+}
+
+fn encode_to_tile(
+    size: ElementSize,
+    direction: Direction,
+    rs: u8,
+    pg: u8,
+    zn: u8,
+    zad: u8,
+    off: u8,
+) -> Encoded
+    ensures { λ r. ⌜ Encodes (Operation.MovaToTile (record { size = size; direction = direction; rs = rs; pg = pg; zn = zn; zad = zad; off = off })) r ⌝ }
+{
+    if rs < 12 {
+        return Encoded::OutOfRange;
+    }
+    if 15 < rs {
+        return Encoded::OutOfRange;
+    }
+    if 7 < pg {
+        return Encoded::OutOfRange;
+    }
+    if 31 < zn {
+        return Encoded::OutOfRange;
+    }
+    if size.bytes() <= zad {
+        return Encoded::OutOfRange;
+    }
+    if offset_count(size) <= off {
+        return Encoded::OutOfRange;
+    }
+    Encoded::Word(
+        0xC0000000
+            + size_bits(size) * 65536
+            + direction.number() as u32 * 32768
+            + (rs - 12) as u32 * 8192
+            + pg as u32 * 1024
+            + zn as u32 * 32
+            + shared_bits(size, zad, off),
+    )
+}
+
+fn encode_from_tile(
+    size: ElementSize,
+    direction: Direction,
+    rs: u8,
+    zan: u8,
+    off: u8,
+    zd: u8,
+) -> Encoded
+    ensures { λ r. ⌜ Encodes (Operation.MovazFromTile (record { size = size; direction = direction; rs = rs; zan = zan; off = off; zd = zd })) r ⌝ }
+{
+    if rs < 12 {
+        return Encoded::OutOfRange;
+    }
+    if 15 < rs {
+        return Encoded::OutOfRange;
+    }
+    if size.bytes() <= zan {
+        return Encoded::OutOfRange;
+    }
+    if offset_count(size) <= off {
+        return Encoded::OutOfRange;
+    }
+    if 31 < zd {
+        return Encoded::OutOfRange;
+    }
+    Encoded::Word(
+        0xC0020200
+            + size_bits(size) * 65536
+            + direction.number() as u32 * 32768
+            + (rs - 12) as u32 * 8192
+            + shared_bits(size, zan, off) * 32
+            + zd as u32,
+    )
+}
+
+// Bits 12:8 of an array move, 0 where the table has no row.
+fn array_bits(zeroes: bool, registers: RegisterCount) -> u32
+    ensures { λ r. ⌜ (r ≡ arrayBits zeroes registers) × (r < 32) ⌝ }
+{
+    match registers {
+        RegisterCount::Two => if zeroes { 0b01010 } else { 0 },
+        RegisterCount::Four => if zeroes { 0 } else { 0b01100 },
+    }
+}
+
+fn encode_array(zeroes: bool, registers: RegisterCount, rv: u8, off: u8, zd: u8) -> Encoded
+    ensures { λ r. ⌜ Encodes (arrayMove zeroes (record { registers = registers; rv = rv; off = off; zd = zd })) r ⌝ }
+{
+    let bits = array_bits(zeroes, registers);
+    if bits == 0 {
+        return Encoded::OutOfRange;
+    }
+    if rv < 8 {
+        return Encoded::OutOfRange;
+    }
+    if 11 < rv {
+        return Encoded::OutOfRange;
+    }
+    if 7 < off {
+        return Encoded::OutOfRange;
+    }
+    if 31 < zd {
+        return Encoded::OutOfRange;
+    }
+    if zd % registers.number() != 0 {
+        return Encoded::OutOfRange;
+    }
+    Encoded::Word(0xC0060000 + (rv - 8) as u32 * 8192 + bits * 256 + off as u32 * 32 + zd as u32)
+}
+
+// A store: so far the table has a row for bytes only.
+fn encode_store(
+    size: ElementSize,
+    direction: Direction,
+    rs: u8,
+    pg: u8,
+    rn: u8,
+    rm: u8,
+    zat: u8,
+    imm: u8,
+) -> Encoded
+    ensures { λ r. ⌜ Encodes (Operation.St1 (record { size = size; direction = direction; rs = rs; pg = pg; rn = rn; rm = rm; zat = zat; imm = imm })) r ⌝ }
+{
+    if size.bytes() != 1 {
+        return Encoded::OutOfRange;
+    }
+    if rs < 12 {
+        return Encoded::OutOfRange;
+    }
+    if 15 < rs {
+        return Encoded::OutOfRange;
+    }
+    if 7 < pg {
+        return Encoded::OutOfRange;
+    }
+    if 31 < rn {
+        return Encoded::OutOfRange;
+    }
+    if 31 < rm {
+        return Encoded::OutOfRange;
+    }
+    if 0 < zat {
+        return Encoded::OutOfRange;
+    }
+    if 15 < imm {
+        return Encoded::OutOfRange;
+    }
+    Encoded::Word(
+        0xE0200000
+            + rm as u32 * 65536
+            + direction.number() as u32 * 32768
+            + (rs - 12) as u32 * 8192
+            + pg as u32 * 1024
+            + rn as u32 * 32
+            + imm as u32,
+    )
+}
+
+// Bits 23 to 16 of a tile move's word, without what tells its kind.
+fn size_bits(size: ElementSize) -> u32
+    ensures { λ r. ⌜ (r ≡ sizeBits size) × (r < 256) ⌝ }
+{
+    match size {
+        ElementSize::Bits8 => 0x00,
+        ElementSize::Bits16 => 0x40,
+        ElementSize::Bits32 => 0x80,
+        ElementSize::Bits64 => 0xC0,
+        ElementSize::Bits128 => 0xC1,
+    }
+}
+
+// How many offsets a word of a size can have.
+fn offset_count(size: ElementSize) -> u8
+    ensures { λ r. ⌜ (r ≡ offsetCount size) × (r < 17) ⌝ }
+{
+    match size {
+        ElementSize::Bits8 => 16,
+        ElementSize::Bits16 => 8,
+        ElementSize::Bits32 => 4,
+        ElementSize::Bits64 => 2,
+        ElementSize::Bits128 => 1,
+    }
+}
+
+// The four bits that a tile and an offset in range share.
+fn shared_bits(size: ElementSize, tile: u8, offset: u8) -> u32
+    requires { ⌜ (tile < bytesOf size) × (offset < offsetCount size) ⌝ }
+    ensures { λ r. ⌜ (r ≡ tile * offsetCount size + offset) × (r < 16) ⌝ }
+{
+    (tile as u32) * (offset_count(size) as u32) + (offset as u32)
+}
