@@ -1,0 +1,192 @@
+//! Decoding of words (document 01, section 4; answers of section 6).
+//!
+//! Written straight from the layouts: bits that tell the classes apart are
+//! tested first, then the fixed bits of the class, then the fields are cut
+//! out. Nothing here is shared with encoding but the names of the numbers.
+
+use crate::flat::{self, Flat};
+use crate::refusal::Refusal;
+
+/// The highest feature level, SME2.1 (section 2).
+const HIGHEST_LEVEL: u8 = 3;
+/// Levels at which the features come in (section 4, last column).
+const SME: u8 = 1;
+const SME2: u8 = 2;
+const SME2P1: u8 = 3;
+
+/// Decodes `word` at feature level `level`.
+///
+/// The level is judged before the word, as the lowest number that applies
+/// is given (section 6).
+pub fn decode(word: u32, level: u8) -> Result<Flat, Refusal> {
+    if level > HIGHEST_LEVEL {
+        return Err(Refusal::Level);
+    }
+    // Bits 31:24 part the moves (C0) from the store (E0).
+    let operation = match word >> 24 {
+        0xC0 => decode_move(word, level),
+        0xE0 => decode_store(word, level),
+        _ => None,
+    };
+    operation.ok_or(Refusal::Undecodable)
+}
+
+/// The moves: bits 21:17 tell the three classes of this unit apart. Other
+/// values belong to other instructions or to none.
+fn decode_move(word: u32, level: u8) -> Option<Flat> {
+    match (word >> 17) & 0x1F {
+        0b00000 if level >= SME => mova_to_tile(word),
+        0b00001 if level >= SME2P1 => movaz_from_tile(word),
+        0b00011 => array_to_vectors(word, level),
+        _ => None,
+    }
+}
+
+/// MOVA to tile: V 15, Rs 14:13, Pg 12:10, Zn 9:5, tile and offset 3:0.
+fn mova_to_tile(word: u32) -> Option<Flat> {
+    let element_bytes = element_bytes(word)?;
+    // Bit 4 is fixed at 0; every other bit is tested already or a field.
+    if word & 0x10 != 0 {
+        return None;
+    }
+    let (tile, offset) = split_slice(element_bytes, (word & 0xF) as u8);
+    Some(Flat {
+        kind: flat::MOVA_TO_TILE,
+        element_bytes,
+        direction: ((word >> 15) & 1) as u8,
+        tile,
+        offset,
+        index: 12 + ((word >> 13) & 3) as u8,
+        predicate: ((word >> 10) & 7) as u8,
+        first_vector: ((word >> 5) & 31) as u8,
+        base: 0,
+        offset_register: 0,
+        vectors: 1,
+    })
+}
+
+/// MOVAZ from tile: V 15, Rs 14:13, tile and offset 8:5, Zd 4:0. It has no
+/// governing predicate.
+fn movaz_from_tile(word: u32) -> Option<Flat> {
+    let element_bytes = element_bytes(word)?;
+    // Bits 12:9 are fixed at 0001.
+    if (word >> 9) & 0xF != 0b0001 {
+        return None;
+    }
+    let (tile, offset) = split_slice(element_bytes, ((word >> 5) & 0xF) as u8);
+    Some(Flat {
+        kind: flat::MOVAZ_FROM_TILE,
+        element_bytes,
+        direction: ((word >> 15) & 1) as u8,
+        tile,
+        offset,
+        index: 12 + ((word >> 13) & 3) as u8,
+        predicate: 0,
+        first_vector: (word & 31) as u8,
+        base: 0,
+        offset_register: 0,
+        vectors: 1,
+    })
+}
+
+/// The array forms: Rv 14:13, offset 7:5. Bits 11:8 tell the four-register
+/// MOVA (1100) from the two-register MOVAZ (1010).
+fn array_to_vectors(word: u32, level: u8) -> Option<Flat> {
+    // Bits 23:22, 16, 15 and 12 are fixed at 0 in both forms.
+    if word & 0x00C1_9000 != 0 {
+        return None;
+    }
+    match (word >> 8) & 0xF {
+        0b1100 if level >= SME2 => mova_four(word),
+        0b1010 if level >= SME2P1 => movaz_two(word),
+        _ => None,
+    }
+}
+
+/// MOVA array, four registers: Zd 4:2 is a quarter of the first register,
+/// bits 1:0 are fixed at 0.
+fn mova_four(word: u32) -> Option<Flat> {
+    if word & 0b11 != 0 {
+        return None;
+    }
+    let zd = ((word >> 2) & 7) as u8;
+    Some(array_form(word, flat::MOVA_ARRAY, 4 * zd, 4))
+}
+
+/// MOVAZ array, two registers: Zd 4:1 is half of the first register, bit 0
+/// is fixed at 0.
+fn movaz_two(word: u32) -> Option<Flat> {
+    if word & 0b1 != 0 {
+        return None;
+    }
+    let zd = ((word >> 1) & 15) as u8;
+    Some(array_form(word, flat::MOVAZ_ARRAY, 2 * zd, 2))
+}
+
+/// What the two array forms have in common. Element size, direction, tile
+/// and predicate are not theirs and stay 0.
+fn array_form(word: u32, kind: u8, first_vector: u8, vectors: u8) -> Flat {
+    Flat {
+        kind,
+        element_bytes: 0,
+        direction: 0,
+        tile: 0,
+        offset: ((word >> 5) & 7) as u8,
+        index: 8 + ((word >> 13) & 3) as u8,
+        predicate: 0,
+        first_vector,
+        base: 0,
+        offset_register: 0,
+        vectors,
+    }
+}
+
+/// ST1B: Rm 20:16, V 15, Rs 14:13, Pg 12:10, Rn 9:5, immediate 3:0.
+fn decode_store(word: u32, level: u8) -> Option<Flat> {
+    // Bits 23:21 are fixed at 001 (bytes, and a store, not a load) and bit
+    // 4 at 0.
+    if level < SME || (word >> 21) & 7 != 0b001 || word & 0x10 != 0 {
+        return None;
+    }
+    Some(Flat {
+        kind: flat::STORE,
+        element_bytes: 1,
+        direction: ((word >> 15) & 1) as u8,
+        tile: 0,
+        offset: (word & 15) as u8,
+        index: 12 + ((word >> 13) & 3) as u8,
+        predicate: ((word >> 10) & 7) as u8,
+        first_vector: 0,
+        base: ((word >> 5) & 31) as u8,
+        offset_register: ((word >> 16) & 31) as u8,
+        vectors: 0,
+    })
+}
+
+/// The element size of a tile move, from the size bits 23:22 and the Q bit
+/// 16. Q goes with the largest size only; with the others the word is not
+/// one of the table (example 3 in section 7).
+fn element_bytes(word: u32) -> Option<u8> {
+    let q = word & 0x0001_0000 != 0;
+    match ((word >> 22) & 3, q) {
+        (0b00, false) => Some(1),
+        (0b01, false) => Some(2),
+        (0b10, false) => Some(4),
+        (0b11, false) => Some(8),
+        (0b11, true) => Some(16),
+        _ => None,
+    }
+}
+
+/// Parts the four bits that tile and offset share: the wider the element,
+/// the more bits name the tile. A byte tile is always 0, and the 16-byte
+/// form has no offset.
+fn split_slice(element_bytes: u8, four_bits: u8) -> (u8, u8) {
+    match element_bytes {
+        1 => (0, four_bits),
+        2 => (four_bits >> 3, four_bits & 0b111),
+        4 => (four_bits >> 2, four_bits & 0b11),
+        8 => (four_bits >> 1, four_bits & 0b1),
+        _ => (four_bits, 0),
+    }
+}

@@ -1,0 +1,142 @@
+//! Encoding of the eleven numbers (document 01, section 4; refusal 8 of
+//! section 6).
+//!
+//! Each kind starts from the base words of the table, checks every number
+//! against its range, and ors the fields in. A number that the kind does
+//! not have must be 0, or two flat forms would give one word.
+
+use crate::flat::{self, Flat};
+use crate::refusal::Refusal;
+
+/// Encodes an operation, or refuses it.
+pub fn encode(operation: &Flat) -> Result<u32, Refusal> {
+    let word = match operation.kind {
+        flat::MOVA_TO_TILE => mova_to_tile(operation),
+        flat::MOVAZ_FROM_TILE => movaz_from_tile(operation),
+        flat::MOVA_ARRAY => mova_array(operation),
+        flat::MOVAZ_ARRAY => movaz_array(operation),
+        flat::STORE => store(operation),
+        _ => None,
+    };
+    word.ok_or(Refusal::Field)
+}
+
+/// MOVA to tile, five element sizes.
+fn mova_to_tile(f: &Flat) -> Option<u32> {
+    let base = match f.element_bytes {
+        1 => 0xC000_0000,
+        2 => 0xC040_0000,
+        4 => 0xC080_0000,
+        8 => 0xC0C0_0000,
+        16 => 0xC0C1_0000,
+        _ => return None,
+    };
+    exactly(f.vectors, 1)?;
+    exactly(f.base, 0)?;
+    exactly(f.offset_register, 0)?;
+    let v = up_to(f.direction, 1)?;
+    let rs = register_from(f.index, 12)?;
+    let pg = up_to(f.predicate, 7)?;
+    let zn = up_to(f.first_vector, 31)?;
+    let slice = tile_with_offset(f)?;
+    Some(base | v << 15 | rs << 13 | pg << 10 | zn << 5 | slice)
+}
+
+/// MOVAZ from tile, five element sizes, no governing predicate.
+fn movaz_from_tile(f: &Flat) -> Option<u32> {
+    let base = match f.element_bytes {
+        1 => 0xC002_0200,
+        2 => 0xC042_0200,
+        4 => 0xC082_0200,
+        8 => 0xC0C2_0200,
+        16 => 0xC0C3_0200,
+        _ => return None,
+    };
+    exactly(f.vectors, 1)?;
+    exactly(f.predicate, 0)?;
+    exactly(f.base, 0)?;
+    exactly(f.offset_register, 0)?;
+    let v = up_to(f.direction, 1)?;
+    let rs = register_from(f.index, 12)?;
+    let zd = up_to(f.first_vector, 31)?;
+    let slice = tile_with_offset(f)?;
+    Some(base | v << 15 | rs << 13 | slice << 5 | zd)
+}
+
+/// MOVA array: the table has the form with four registers only. The first
+/// of them is a multiple of 4 and so already stands at its place: Zd times
+/// 4 in bits 4:2 is the register number in bits 4:0.
+fn mova_array(f: &Flat) -> Option<u32> {
+    exactly(f.vectors, 4)?;
+    let first = up_to(f.first_vector, 28)?;
+    exactly(f.first_vector % 4, 0)?;
+    Some(0xC006_0C00 | array_fields(f)? | first)
+}
+
+/// MOVAZ array: the table has the form with two registers only; the first
+/// is a multiple of 2.
+fn movaz_array(f: &Flat) -> Option<u32> {
+    exactly(f.vectors, 2)?;
+    let first = up_to(f.first_vector, 30)?;
+    exactly(f.first_vector % 2, 0)?;
+    Some(0xC006_0A00 | array_fields(f)? | first)
+}
+
+/// The fields that the two array forms share, and the numbers that neither
+/// of them has.
+fn array_fields(f: &Flat) -> Option<u32> {
+    exactly(f.element_bytes, 0)?;
+    exactly(f.direction, 0)?;
+    exactly(f.tile, 0)?;
+    exactly(f.predicate, 0)?;
+    exactly(f.base, 0)?;
+    exactly(f.offset_register, 0)?;
+    let rv = register_from(f.index, 8)?;
+    let offset = up_to(f.offset, 7)?;
+    Some(rv << 13 | offset << 5)
+}
+
+/// ST1B: only the store of bytes is in the table, and it moves no vector
+/// register.
+fn store(f: &Flat) -> Option<u32> {
+    exactly(f.element_bytes, 1)?;
+    exactly(f.tile, 0)?;
+    exactly(f.first_vector, 0)?;
+    exactly(f.vectors, 0)?;
+    let rm = up_to(f.offset_register, 31)?;
+    let v = up_to(f.direction, 1)?;
+    let rs = register_from(f.index, 12)?;
+    let pg = up_to(f.predicate, 7)?;
+    let rn = up_to(f.base, 31)?;
+    let immediate = up_to(f.offset, 15)?;
+    Some(0xE020_0000 | rm << 16 | v << 15 | rs << 13 | pg << 10 | rn << 5 | immediate)
+}
+
+/// The four bits that tile and offset share. There are m tiles of m-byte
+/// elements (section 3) and 16/m offsets for each, so that tile number and
+/// offset together count the sixteen values.
+fn tile_with_offset(f: &Flat) -> Option<u32> {
+    let offsets = 16 / f.element_bytes;
+    let tile = up_to(f.tile, f.element_bytes - 1)?;
+    let offset = up_to(f.offset, offsets - 1)?;
+    Some(tile * u32::from(offsets) + offset)
+}
+
+/// A number from 0 to `highest`, as wide as a word for shifting.
+fn up_to(value: u8, highest: u8) -> Option<u32> {
+    (value <= highest).then_some(u32::from(value))
+}
+
+/// One of four registers, `first` to `first` + 3, as the two bits that name
+/// it.
+fn register_from(value: u8, first: u8) -> Option<u32> {
+    if value < first || value > first + 3 {
+        return None;
+    }
+    Some(u32::from(value - first))
+}
+
+/// Nothing but the one value that the form allows.
+fn exactly(value: u8, wanted: u8) -> Option<()> {
+    (value == wanted).then_some(())
+}

@@ -1,0 +1,216 @@
+//! Unit tests: the worked examples of document 01, section 7, as far as
+//! they speak of words, and the two ways against each other and the table.
+
+use crate::decode::decode;
+use crate::encode::encode;
+use crate::flat::{self, Flat};
+use crate::inputs::random::Random;
+use crate::inputs::rows::{Row, ROWS};
+use crate::inputs::{examples, fields, words};
+use crate::lines;
+use crate::refusal::Refusal;
+use std::collections::HashSet;
+
+/// Examples 1, 2, 4 to 10: the numbers at the least level and above it, 3
+/// below it, 1 above the highest level.
+#[test]
+fn examples_decode_from_their_level_on() {
+    for (word, least, numbers) in examples::DECODING {
+        for level in 0..=3 {
+            let wanted = if level >= least {
+                Ok(Flat::from_bytes(numbers))
+            } else {
+                Err(Refusal::Undecodable)
+            };
+            assert_eq!(decode(word, level), wanted, "{word:08X} at {level}");
+        }
+        for level in [4, 5, 255] {
+            assert_eq!(decode(word, level), Err(Refusal::Level));
+        }
+    }
+}
+
+/// Examples 3 and 8: words that no level decodes. A level above the
+/// highest is still told first.
+#[test]
+fn examples_that_do_not_decode() {
+    for word in examples::UNDECODABLE {
+        for level in 0..=3 {
+            assert_eq!(decode(word, level), Err(Refusal::Undecodable));
+        }
+        assert_eq!(decode(word, 4), Err(Refusal::Level));
+    }
+}
+
+/// The examples back to their words.
+#[test]
+fn examples_encode() {
+    for (word, _, numbers) in examples::DECODING {
+        assert_eq!(encode(&Flat::from_bytes(numbers)), Ok(word));
+    }
+}
+
+/// Example 11.
+#[test]
+fn examples_that_do_not_encode() {
+    for numbers in examples::UNENCODABLE {
+        assert_eq!(encode(&Flat::from_bytes(numbers)), Err(Refusal::Field));
+    }
+}
+
+/// The largest in-range neighbours of example 11 are encoded.
+#[test]
+fn neighbours_of_example_eleven_encode() {
+    let byte_move = [flat::MOVA_TO_TILE, 1, 0, 0, 15, 12, 0, 0, 0, 0, 1];
+    assert_eq!(encode(&Flat::from_bytes(byte_move)), Ok(0xC000_000F));
+    let four = [flat::MOVA_ARRAY, 0, 0, 0, 0, 8, 0, 4, 0, 0, 4];
+    assert_eq!(encode(&Flat::from_bytes(four)), Ok(0xC006_0C04));
+}
+
+/// Section 6: the numbers of the refusals.
+#[test]
+fn refusal_numbers() {
+    assert_eq!(Refusal::Level.number(), 1);
+    assert_eq!(Refusal::Undecodable.number(), 3);
+    assert_eq!(Refusal::Field.number(), 8);
+}
+
+/// Every word of every row against the table, both ways and at all levels.
+#[test]
+fn every_member_agrees_with_the_table() {
+    for row in &ROWS {
+        every_member(row, &mut Vec::new());
+    }
+}
+
+/// Fixes one field after another at each of its values.
+fn every_member(row: &Row, bits: &mut Vec<u32>) {
+    let Some(field) = row.fields.get(bits.len()) else {
+        check_member(row, bits);
+        return;
+    };
+    for value in 0..=field.top() {
+        bits.push(value);
+        every_member(row, bits);
+        bits.pop();
+    }
+}
+
+fn check_member(row: &Row, bits: &[u32]) {
+    let word = row.word(bits);
+    let operation = Flat::from_bytes(row.numbers(bits));
+    assert_eq!(decode(word, row.level), Ok(operation), "{word:08X}");
+    assert_eq!(decode(word, 3), Ok(operation), "{word:08X}");
+    let below = decode(word, row.level - 1);
+    assert_eq!(below, Err(Refusal::Undecodable), "{word:08X}");
+    assert_eq!(encode(&operation), Ok(word), "{word:08X}");
+}
+
+/// The table says which words decode: those that agree with the base of a
+/// row in all its fixed bits, from the row's level on.
+fn in_table(word: u32, level: u8) -> bool {
+    let fits = |row: &Row| level >= row.level && (word ^ row.base) & row.fixed() == 0;
+    ROWS.iter().any(fits)
+}
+
+/// Checks one word at one level: it decodes just as the table says, and a
+/// decoded word encodes back.
+fn check_word(word: u32, level: u8) {
+    let answer = decode(word, level);
+    assert_eq!(answer.is_ok(), in_table(word, level), "{word:08X}");
+    if let Ok(operation) = answer {
+        assert_eq!(encode(&operation), Ok(word), "{word:08X}");
+    }
+}
+
+/// Uniformly random words, and random words below the two leading bytes
+/// that the rows have, where many more decode.
+#[test]
+fn random_words_round_trip() {
+    let mut random = Random::new(7);
+    for _ in 0..2_000_000 {
+        let word = random.word();
+        let level = random.below(4) as u8;
+        check_word(word, level);
+        check_word(word & 0x00FF_FFFF | 0xC000_0000, level);
+        check_word(word & 0x00FF_FFFF | 0xE000_0000, level);
+        check_word(word & 0x0007_FFFF | 0xC000_0000, level);
+    }
+}
+
+/// Whatever is encoded decodes to the same eleven numbers, so no two flat
+/// forms share a word.
+#[test]
+fn encoded_numbers_decode_back() {
+    for bytes in fields::list() {
+        let operation = Flat::from_bytes(bytes);
+        match encode(&operation) {
+            Ok(word) => assert_eq!(decode(word, 3), Ok(operation)),
+            Err(refusal) => assert_eq!(refusal, Refusal::Field),
+        }
+    }
+}
+
+/// The bytes of the flat form stand in order.
+#[test]
+fn flat_form_keeps_its_order() {
+    let bytes = [1, 2, 3, 4, 5, 6, 7, 8, 9, 10, 11];
+    let operation = Flat::from_bytes(bytes);
+    assert_eq!(operation.to_bytes(), bytes);
+    assert_eq!((operation.kind, operation.vectors), (1, 11));
+}
+
+/// The input lists have no doubles and the agreed lengths.
+#[test]
+fn input_lists_are_unique_and_long_enough() {
+    let words = words::list();
+    assert!((10_000..=14_000).contains(&words.len()), "{}", words.len());
+    assert_eq!(words.iter().collect::<HashSet<_>>().len(), words.len());
+    let fields = fields::list();
+    assert!((6_000..=8_000).contains(&fields.len()), "{}", fields.len());
+    assert_eq!(fields.iter().collect::<HashSet<_>>().len(), fields.len());
+}
+
+/// The printed form of the answers.
+#[test]
+fn lines_are_answered() {
+    let decoded = |line: &str| lines::decode_line(line.as_bytes());
+    assert_eq!(
+        decoded("C080ACA9 01").unwrap(),
+        "C080ACA9 01 0 1 4 1 2 1 13 3 5 0 0 1 C080ACA9"
+    );
+    assert_eq!(decoded("C0000010 03").unwrap(), "C0000010 03 3");
+    assert_eq!(decoded("C0000000 04").unwrap(), "C0000000 04 1");
+    let encoded = |line: &str| lines::encode_line(line.as_bytes());
+    assert_eq!(
+        encoded("01040102040D0305000001").unwrap(),
+        "01040102040D0305000001 8 00000000"
+    );
+    assert_eq!(
+        encoded("01040102010D0305000001").unwrap(),
+        "01040102010D0305000001 0 C080ACA9"
+    );
+}
+
+/// Lines that are not of the agreed shape are errors, not answers.
+#[test]
+fn bad_lines_are_errors() {
+    for line in [
+        "",
+        "C0000000",
+        "C0000000 3",
+        "c0000000 03",
+        "C0000000 03 ",
+        "C0000000\t03",
+    ] {
+        assert!(lines::decode_line(line.as_bytes()).is_err(), "{line:?}");
+    }
+    for line in [
+        "",
+        "01",
+        "01040102010d0305000001",
+        "01040102010D03050000011",
+    ] {
+        assert!(lines::encode_line(line.as_bytes()).is_err(), "{line:?}");
+    }
+}
