@@ -1,0 +1,4 @@
+pub mod ScatterLaws
+pub mod TileLaws
+pub mod SliceLaws
+pub mod Claims

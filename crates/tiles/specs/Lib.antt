@@ -1,0 +1,5 @@
+pub mod Scatter
+pub mod Predicate
+pub mod Tile
+pub mod Group
+pub mod Claims
