@@ -1,0 +1,6 @@
+pub mod BlockLaws
+mod PartLaws
+mod MaskLaws
+pub mod ColumnLaws
+mod SliceLaws
+mod GroupLaws

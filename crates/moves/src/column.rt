@@ -1,0 +1,124 @@
+// Elements that stand apart, as those of a vertical slice do: element e starts at base + e * step.
+ghost use mathlib.Core.Path.{_≡_};
+ghost use Prim.Native.Nat.{ℕ, _+_, _*_, _/_, _%_, _^_, _≤_, _<_};
+ghost use lib.Dec.{eqb};
+ghost use lib.ListN.{length, getD};
+ghost use Rattle.encoding.specs.Flat.{bytesOf};
+ghost use Rattle.tiles.specs.Scatter.{scatter, all, zeros, from};
+ghost use Rattle.tiles.specs.Predicate.{active};
+ghost use Rattle.moves.specs.Column.{strided};
+use crate::element::choose;
+use crate::element::clear_element;
+use crate::element::copy_element;
+use crate::element::merge_elements;
+use encoding::ElementSize;
+
+// Copies the active ones of 8 bytes, which go by the bits of b, to bytes that stand step apart: every
+// one is written, the others with what they hold.
+fn merge_eight(dst: &mut [u8], base: usize, step: usize, src: &[u8], sbase: usize, b: u8)
+    requires { ⌜ sbase + 8 ≤ length (now src) ⌝ }
+    requires { ⌜ ((e : ℕ) → e < 8 → base + e * step < length (now dst)) ⌝ }
+    ensures { λ _. ⌜ now (dst .exit) ≡ scatter (λ (k : ℕ). base + k * step) (λ (k : ℕ). eqb (b / 2 ^ k % 2) 1) (λ (k : ℕ). getD (now (src .entry)) (sbase + k) 0) 8 (now (dst .entry)) ⌝ }
+{
+    let mut i = 0;
+    while i < 8 {
+        let at = base + i * step;
+        dst[at] = choose((b >> i) % 2 == 1, src[sbase + i], dst[at]);
+        i += 1;
+    }
+}
+
+// Merges n times 8 elements of one byte, a predicate byte and its eight elements at a time.
+fn merge_column_bytes(
+    dst: &mut [u8],
+    base: usize,
+    step: usize,
+    src: &[u8],
+    sbase: usize,
+    p: &[u8],
+    pbase: usize,
+    n: usize,
+)
+    requires { ⌜ (sbase + n * 8 ≤ length (now src)) × (pbase + n ≤ length (now p)) ⌝ }
+    requires { ⌜ ((e : ℕ) → e < n * 8 → base + e * step < length (now dst)) ⌝ }
+    ensures { λ _. ⌜ now (dst .exit) ≡ scatter (strided base step 1) (active (now (p .entry)) pbase 1) (λ (k : ℕ). getD (now (src .entry)) (sbase + k) 0) (n * 8) (now (dst .entry)) ⌝ }
+{
+    let mut g = 0;
+    while g < n {
+        let b = p[pbase + g];
+        merge_eight(dst, base + g * 8 * step, step, src, sbase + g * 8, b);
+        g += 1;
+    }
+}
+
+// Copies the active ones of n elements, which have whole predicate bytes, from index sbase of src on
+// to elements of dst that stand step apart, under the governing predicate from index pbase of p on.
+pub fn merge_column(
+    dst: &mut [u8],
+    base: usize,
+    step: usize,
+    src: &[u8],
+    sbase: usize,
+    p: &[u8],
+    pbase: usize,
+    size: ElementSize,
+    n: usize,
+)
+    requires { ⌜ (n * bytesOf size % 8 ≡ 0) × (sbase + n * bytesOf size ≤ length (now src)) × (pbase * 8 + n * bytesOf size ≤ 8 * length (now p)) ⌝ }
+    requires { ⌜ ((e : ℕ) → e < n → base + e * step + bytesOf size ≤ length (now dst)) ⌝ }
+    ensures { λ _. ⌜ now (dst .exit) ≡ scatter (strided base step (bytesOf size)) (active (now (p .entry)) pbase (bytesOf size)) (λ (k : ℕ). getD (now (src .entry)) (sbase + k) 0) (n * bytesOf size) (now (dst .entry)) ⌝ }
+{
+    if size.bytes() == 1 {
+        merge_column_bytes(dst, base, step, src, sbase, p, pbase, n / 8);
+    } else {
+        merge_elements(dst, base, step, src, sbase, p, pbase, size, n);
+    }
+}
+
+// Moves n elements of za that stand step apart to z, from index zbase on; each is then zero in za.
+// One pass: in long vectors each element is on a cache line of its own.
+pub fn take_column(
+    z: &mut [u8],
+    zbase: usize,
+    za: &mut [u8],
+    base: usize,
+    step: usize,
+    size: ElementSize,
+    n: usize,
+)
+    requires { ⌜ (bytesOf size ≤ step) × (zbase + n * bytesOf size ≤ length (now z)) ⌝ }
+    requires { ⌜ ((e : ℕ) → e < n → base + e * step + bytesOf size ≤ length (now za)) ⌝ }
+    ensures { λ _. ⌜ now (z .exit) ≡ scatter (from zbase) all (λ (k : ℕ). getD (now (za .entry)) (strided base step (bytesOf size) k) 0) (n * bytesOf size) (now (z .entry)) ⌝ }
+    ensures { λ _. ⌜ now (za .exit) ≡ scatter (strided base step (bytesOf size)) all zeros (n * bytesOf size) (now (za .entry)) ⌝ }
+{
+    let m = size.bytes() as usize;
+    let mut e = 0;
+    while e < n {
+        let at = base + e * step;
+        copy_element(z, zbase + e * m, za, at, size);
+        clear_element(za, at, size);
+        e += 1;
+    }
+}
+
+// Copies n elements of za that stand step apart to dst, from index at_dst on.
+pub fn gather_column(
+    dst: &mut [u8],
+    at_dst: usize,
+    za: &[u8],
+    base: usize,
+    step: usize,
+    size: ElementSize,
+    n: usize,
+)
+    requires { ⌜ «at_dst» + n * bytesOf size ≤ length (now dst) ⌝ }
+    requires { ⌜ ((e : ℕ) → e < n → base + e * step + bytesOf size ≤ length (now za)) ⌝ }
+    ensures { λ _. ⌜ now (dst .exit) ≡ scatter (from «at_dst») all (λ (k : ℕ). getD (now (za .entry)) (strided base step (bytesOf size) k) 0) (n * bytesOf size) (now (dst .entry)) ⌝ }
+{
+    let m = size.bytes() as usize;
+    let mut e = 0;
+    while e < n {
+        copy_element(dst, at_dst + e * m, za, base + e * step, size);
+        e += 1;
+    }
+}

@@ -1,0 +1,116 @@
+// Elements, one at a time: their length is written out for each size, so that one is a load and a store.
+ghost use mathlib.Core.Path.{_≡_};
+ghost use Prim.Native.Nat.{ℕ, _+_, _*_, _/_, _≤_, _<_};
+ghost use lib.ListN.{length, getD};
+ghost use Rattle.encoding.specs.Flat.{bytesOf};
+ghost use Rattle.tiles.specs.Scatter.{scatter, all, zeros, from, pick};
+ghost use Rattle.tiles.specs.Predicate.{bit, active};
+ghost use Rattle.moves.specs.Column.{strided};
+use crate::copy::clear_bytes;
+use crate::copy::copy_bytes;
+use crate::copy::copy_vector;
+use encoding::ElementSize;
+
+// Copies one element.
+pub fn copy_element(dst: &mut [u8], at_dst: usize, src: &[u8], at_src: usize, size: ElementSize)
+    requires { ⌜ («at_dst» + bytesOf size ≤ length (now dst)) × («at_src» + bytesOf size ≤ length (now src)) ⌝ }
+    ensures { λ _. ⌜ now (dst .exit) ≡ scatter (from «at_dst») all (λ (k : ℕ). getD (now (src .entry)) («at_src» + k) 0) (bytesOf size) (now (dst .entry)) ⌝ }
+{
+    match size {
+        ElementSize::Bits8 => copy_vector(dst, at_dst, src, at_src, 1),
+        ElementSize::Bits16 => copy_vector(dst, at_dst, src, at_src, 2),
+        ElementSize::Bits32 => copy_vector(dst, at_dst, src, at_src, 4),
+        ElementSize::Bits64 => copy_vector(dst, at_dst, src, at_src, 8),
+        ElementSize::Bits128 => copy_vector(dst, at_dst, src, at_src, 16),
+    }
+}
+
+// Sets one element to zero.
+pub fn clear_element(dst: &mut [u8], at: usize, size: ElementSize)
+    requires { ⌜ at + bytesOf size ≤ length (now dst) ⌝ }
+    ensures { λ _. ⌜ now (dst .exit) ≡ scatter (from at) all zeros (bytesOf size) (now (dst .entry)) ⌝ }
+{
+    match size {
+        ElementSize::Bits8 => clear_bytes(dst, at, 1),
+        ElementSize::Bits16 => clear_bytes(dst, at, 2),
+        ElementSize::Bits32 => clear_bytes(dst, at, 4),
+        ElementSize::Bits64 => clear_bytes(dst, at, 8),
+        ElementSize::Bits128 => clear_bytes(dst, at, 16),
+    }
+}
+
+// a where the test holds, else b.
+pub fn choose(on: bool, a: u8, b: u8) -> u8
+    ensures { λ r. ⌜ r ≡ pick on a b ⌝ }
+{
+    if on { a } else { b }
+}
+
+// Copies n bytes, at most 16, where the test holds. Either way they are written, without a branch.
+fn merge_bytes(dst: &mut [u8], at_dst: usize, src: &[u8], at_src: usize, on: bool, n: usize)
+    requires { ⌜ (n ≤ 16) × («at_dst» + n ≤ length (now dst)) × («at_src» + n ≤ length (now src)) ⌝ }
+    ensures { λ _. ⌜ now (dst .exit) ≡ scatter (from «at_dst») (λ (k : ℕ). on) (λ (k : ℕ). getD (now (src .entry)) («at_src» + k) 0) n (now (dst .entry)) ⌝ }
+{
+    let mut part = [0u8; 16];
+    let mut i = 0;
+    while i < n {
+        part[i] = choose(on, src[at_src + i], dst[at_dst + i]);
+        i += 1;
+    }
+    copy_bytes(dst, at_dst, &part, 0, n);
+}
+
+// Copies one element where the test holds.
+fn merge_element(
+    dst: &mut [u8],
+    at_dst: usize,
+    src: &[u8],
+    at_src: usize,
+    on: bool,
+    size: ElementSize,
+)
+    requires { ⌜ («at_dst» + bytesOf size ≤ length (now dst)) × («at_src» + bytesOf size ≤ length (now src)) ⌝ }
+    ensures { λ _. ⌜ now (dst .exit) ≡ scatter (from «at_dst») (λ (k : ℕ). on) (λ (k : ℕ). getD (now (src .entry)) («at_src» + k) 0) (bytesOf size) (now (dst .entry)) ⌝ }
+{
+    match size {
+        ElementSize::Bits8 => merge_bytes(dst, at_dst, src, at_src, on, 1),
+        ElementSize::Bits16 => merge_bytes(dst, at_dst, src, at_src, on, 2),
+        ElementSize::Bits32 => merge_bytes(dst, at_dst, src, at_src, on, 4),
+        ElementSize::Bits64 => merge_bytes(dst, at_dst, src, at_src, on, 8),
+        ElementSize::Bits128 => merge_bytes(dst, at_dst, src, at_src, on, 16),
+    }
+}
+
+// Bit i of the predicate that starts at index base of p.
+fn bit_at(p: &[u8], base: usize, i: usize) -> bool
+    requires { ⌜ base + i / 8 < length (now p) ⌝ }
+    ensures { λ r. ⌜ r ≡ bit (now (p .entry)) base i ⌝ }
+{
+    (p[base + i / 8] >> (i % 8)) % 2 == 1
+}
+
+// Copies the active ones of n elements, one after another, from index sbase of src on to elements of
+// dst that stand step apart, under the governing predicate from index pbase of p on.
+pub fn merge_elements(
+    dst: &mut [u8],
+    base: usize,
+    step: usize,
+    src: &[u8],
+    sbase: usize,
+    p: &[u8],
+    pbase: usize,
+    size: ElementSize,
+    n: usize,
+)
+    requires { ⌜ (sbase + n * bytesOf size ≤ length (now src)) × (pbase * 8 + n * bytesOf size ≤ 8 * length (now p)) ⌝ }
+    requires { ⌜ ((e : ℕ) → e < n → base + e * step + bytesOf size ≤ length (now dst)) ⌝ }
+    ensures { λ _. ⌜ now (dst .exit) ≡ scatter (strided base step (bytesOf size)) (active (now (p .entry)) pbase (bytesOf size)) (λ (k : ℕ). getD (now (src .entry)) (sbase + k) 0) (n * bytesOf size) (now (dst .entry)) ⌝ }
+{
+    let m = size.bytes() as usize;
+    let mut e = 0;
+    while e < n {
+        let on = bit_at(p, pbase, e * m);
+        merge_element(dst, base + e * step, src, sbase + e * m, on, size);
+        e += 1;
+    }
+}

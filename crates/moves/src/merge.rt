@@ -1,0 +1,115 @@
+// Predicated copies of contiguous bytes, 16 at a time and without a branch.
+ghost use mathlib.Core.Path.{_≡_};
+ghost use Prim.Native.Nat.{ℕ, _+_, _*_, _/_, _≤_, _<_};
+ghost use lib.ListN.{length, getD};
+ghost use lib.Bits.{bitAnd};
+ghost use Rattle.encoding.specs.Flat.{bytesOf};
+ghost use Rattle.tiles.specs.Scatter.{scatter, from};
+ghost use Rattle.tiles.specs.Predicate.{active};
+ghost use Rattle.moves.specs.Mask.{flag, Masks, maskRow};
+use crate::copy::copy_bytes;
+use crate::element::choose;
+use crate::element::merge_elements;
+use encoding::ElementSize;
+
+// The row of a size in the table of masks.
+fn mask_row(size: ElementSize) -> usize
+    ensures { λ r. ⌜ (r ≡ maskRow size) × (r < 4) ⌝ }
+{
+    match size {
+        ElementSize::Bits8 => 0,
+        ElementSize::Bits16 => 1,
+        ElementSize::Bits32 => 2,
+        ElementSize::Bits64 => 3,
+        ElementSize::Bits128 => 3,
+    }
+}
+
+// The masks of a size: byte i of 16 goes by bit i / m * m mod 8 of its predicate byte. The table is
+// a local, and its row not known before, so that a row is one load.
+fn masks(size: ElementSize) -> [u8; 16]
+    ensures { λ r. ⌜ Masks (bytesOf size) r ⌝ }
+{
+    let row = mask_row(size);
+    let rows = [
+        [1u8, 2, 4, 8, 16, 32, 64, 128, 1, 2, 4, 8, 16, 32, 64, 128],
+        [1, 1, 4, 4, 16, 16, 64, 64, 1, 1, 4, 4, 16, 16, 64, 64],
+        [1, 1, 1, 1, 16, 16, 16, 16, 1, 1, 1, 1, 16, 16, 16, 16],
+        [1, 1, 1, 1, 1, 1, 1, 1, 1, 1, 1, 1, 1, 1, 1, 1],
+    ];
+    rows[row]
+}
+
+// For 16 bytes of a vector under the two predicate bytes from index at on: a byte that is not 0
+// exactly if its bit is 1.
+fn flags(p: &[u8], at: usize, bits: [u8; 16]) -> [u8; 16]
+    requires { ⌜ at + 2 ≤ length (now p) ⌝ }
+    ensures { λ r. ⌜ ((i : ℕ) → i < 16 → getD r i 0 ≡ bitAnd (getD (now (p .entry)) (at + i / 8) 0) (getD bits i 0)) ⌝ }
+{
+    let mut on = [0u8; 16];
+    let mut i = 0;
+    while i < 16 {
+        on[i] = p[at + i / 8] & bits[i];
+        i += 1;
+    }
+    on
+}
+
+// Copies those of 16 bytes whose flag is not 0: all are read, then all are written.
+fn merge_sixteen(dst: &mut [u8], at_dst: usize, src: &[u8], at_src: usize, on: [u8; 16])
+    requires { ⌜ («at_dst» + 16 ≤ length (now dst)) × («at_src» + 16 ≤ length (now src)) ⌝ }
+    ensures { λ _. ⌜ now (dst .exit) ≡ scatter (from «at_dst») (flag on) (λ (k : ℕ). getD (now (src .entry)) («at_src» + k) 0) 16 (now (dst .entry)) ⌝ }
+{
+    let mut part = [0u8; 16];
+    let mut i = 0;
+    while i < 16 {
+        part[i] = choose(on[i] != 0, src[at_src + i], dst[at_dst + i]);
+        i += 1;
+    }
+    copy_bytes(dst, at_dst, &part, 0, 16);
+}
+
+// Merges n times 16 bytes of elements of at most 8 bytes, so that each half of 16 has a predicate byte.
+fn merge_sixteens(
+    dst: &mut [u8],
+    at_dst: usize,
+    src: &[u8],
+    at_src: usize,
+    p: &[u8],
+    pbase: usize,
+    size: ElementSize,
+    n: usize,
+)
+    requires { ⌜ (bytesOf size ≤ 8) × («at_dst» + n * 16 ≤ length (now dst)) × («at_src» + n * 16 ≤ length (now src)) × (pbase + n * 2 ≤ length (now p)) ⌝ }
+    ensures { λ _. ⌜ now (dst .exit) ≡ scatter (from «at_dst») (active (now (p .entry)) pbase (bytesOf size)) (λ (k : ℕ). getD (now (src .entry)) («at_src» + k) 0) (n * 16) (now (dst .entry)) ⌝ }
+{
+    let bits = masks(size);
+    let mut g = 0;
+    while g < n {
+        let on = flags(p, pbase + g * 2, bits);
+        merge_sixteen(dst, at_dst + g * 16, src, at_src + g * 16, on);
+        g += 1;
+    }
+}
+
+// Copies the active elements of a vector of n times 16 bytes, under the governing predicate that
+// starts at index pbase of p; the bytes of the others stay.
+pub fn merge_vector(
+    dst: &mut [u8],
+    at_dst: usize,
+    src: &[u8],
+    at_src: usize,
+    p: &[u8],
+    pbase: usize,
+    size: ElementSize,
+    n: usize,
+)
+    requires { ⌜ («at_dst» + n * 16 ≤ length (now dst)) × («at_src» + n * 16 ≤ length (now src)) × (pbase + n * 2 ≤ length (now p)) ⌝ }
+    ensures { λ _. ⌜ now (dst .exit) ≡ scatter (from «at_dst») (active (now (p .entry)) pbase (bytesOf size)) (λ (k : ℕ). getD (now (src .entry)) («at_src» + k) 0) (n * 16) (now (dst .entry)) ⌝ }
+{
+    if size.bytes() == 16 {
+        merge_elements(dst, at_dst, 16, src, at_src, p, pbase, size, n);
+    } else {
+        merge_sixteens(dst, at_dst, src, at_src, p, pbase, size, n);
+    }
+}
