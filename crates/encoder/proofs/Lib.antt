@@ -1,1 +1,1 @@
-mod EncoderLaws
+pub mod EncoderLaws

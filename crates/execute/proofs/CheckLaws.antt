@@ -1,0 +1,46 @@
+-- The three answers of the check of settings and lengths.
+-- Assumes nothing.
+use Prim.Native.Nat.{ℕ, _+_, _*_, _/_, _^_, _≤_}
+use mathlib.Core.Path.{_≡_, refl}
+use mathlib.Core.Bool.{Bool, true, false, _&&_, and-eq-true-iff}
+use mathlib.Core.Logic.{_⊎_, inl, inr}
+use native.Mathlib.Nat.{mul-le-mul}
+use native.Mathlib.Omega.{arith}
+use lib.Dec.{eqb, leb}
+use borrow.Author.Tests.{eq-eqb, le-leb}
+use Rattle.settings.specs.Settings.{isVectorLength, validSettings, maxLevel}
+use Rattle.settings.specs.declared.Settings.{Settings}
+use Rattle.encoding.specs.declared.operation.ElementSize.the-variants.{Bits8}
+use Rattle.execute.specs.declared.check.Buffers.the-variants.{Valid, BadSettings, BadLengths}
+use Rattle.execute.specs.Execute.{validLengths}
+use Rattle.execute.specs.Promise.{checkOf}
+use Rattle.execute.proofs.ExecuteLaws.{Lengths, lengths-facts}
+use Rattle.execute.proofs.LengthLaws.{whole}
+
+pub vector-valid : (s : Settings) → validSettings (s .«vector_bytes») (s .level) ≡ true → isVectorLength (s .«vector_bytes») ≡ true
+vector-valid s e = and-eq-true-iff (isVectorLength (s .«vector_bytes»)) (leb (s .level) maxLevel) .0 e .0
+
+-- a valid vector length is at most 256, and its square fits
+pub longest : (s : Settings) → validSettings (s .«vector_bytes») (s .level) ≡ true → s .«vector_bytes» ≤ 256
+longest s e = whole Bits8 (s .«vector_bytes») (vector-valid s e) .longest
+
+pub square-small : (B : ℕ) → B ≤ 256 → B * B ≤ 65536
+square-small B h = mul-le-mul h h
+
+module _ (s : Settings) (lx lz lp lza lm : ℕ) where
+  facts-lengths : Lengths s lx lz lp lza lm → validLengths s lx lz lp lza lm ≡ true
+  facts-lengths h =
+      rw (eq-eqb _ _ (h .x), eq-eqb _ _ (h .z), eq-eqb _ _ (h .p), eq-eqb _ _ (h .za)) (le-leb _ _ (h .memory))
+
+  pub bad-settings : validSettings (s .«vector_bytes») (s .level) ≡ false → BadSettings ≡ checkOf s lx lz lp lza lm
+  bad-settings e = rw e
+
+  pub valid : validSettings (s .«vector_bytes») (s .level) ≡ true → Lengths s lx lz lp lza lm → Valid ≡ checkOf s lx lz lp lza lm
+  valid e h = rw (e, facts-lengths h)
+
+  pub bad-lengths : validSettings (s .«vector_bytes») (s .level) ≡ true → (Lengths s lx lz lp lza lm → ⊥) → BadLengths ≡ checkOf s lx lz lp lza lm
+  bad-lengths e n = go (validLengths s lx lz lp lza lm) refl
+    where
+      go : (b : Bool) → validLengths s lx lz lp lza lm ≡ b → BadLengths ≡ checkOf s lx lz lp lza lm
+      go true q = absurd (n (lengths-facts s lx lz lp lza lm q))
+      go false q = rw (e, q)

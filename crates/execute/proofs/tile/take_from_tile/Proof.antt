@@ -1,0 +1,56 @@
+-- `execute::take_from_tile` meets its contract: the slice is the one that the index register and the offset name.
+-- Assumes nothing.
+use native.Mathlib.Omega.{arith}
+use Rattle.execute.proofs.LengthLaws.{whole}
+use Rattle.execute.proofs.MoveLaws.{register-within, placed, taken-from-tile, zeroed-in-tile}
+use mathlib.Core.Path.{_∙_}
+use mathlib.Core.List.{[]}
+use borrow.Author.Needs.{needs}
+use Rattle.execute.proofs.tile.take_from_tile.Statement.{statement}
+use Rattle.execute.proofs.tile.take_from_tile.Tie as tie
+
+selected-requires : tie.Need-selected-requires
+selected-requires c κs =
+    let entry = c .before .before .before .before .before .before .before .before .before .before in
+    let w = whole (entry .args .operation .size) (entry .args .vector-bytes) (entry .pre .0 .vector) in
+    omega (arith, c .before .before .before .before .before .slice-count .ensures, w .slices, w .few, entry .pre .1 .offset)
+
+mul-take-slice : tie.Need-mul-take-slice
+mul-take-slice c =
+    let entry = c .before .before .before .before .before .before .before .before .before .before .before .before in
+    let w = whole (entry .args .operation .size) (entry .args .vector-bytes) (entry .pre .0 .vector) in
+    omega (arith, register-within (entry .args .vector-bytes) (entry .args .operation .zd) 32 (entry .pre .1 .vector), w .longest)
+
+take-slice-requires : tie.Need-take-slice-requires
+take-slice-requires c κs =
+    let entry = c .before .before .before .before .before .before .before .before .before .before .before .before in (
+      placed (entry .args .operation .size) (entry .args .vector-bytes) _ _ (entry .pre .0 .vector) (entry .pre .1 .tile) (omega (arith, c .before .before .before .before .before .before .before .slice-count .ensures, c .before .selected .ensures .1)),
+      (
+        omega (arith, entry .pre .0 .za),
+        omega (arith, entry .pre .0 .z, register-within (entry .args .vector-bytes) (entry .args .operation .zd) 32 (entry .pre .1 .vector)),
+      ),
+    )
+
+returns : tie.Need-returns
+returns c =
+    let a = c .before .before .before .before .before .before .before .before .before .before .before .before .before .before .before .before .before .args in (
+      c .before .before .before .before .take-slice .ensures .0 ∙ taken-from-tile (a .vector-bytes) _ _ _ _ (a .operation) (c .before .before .before .before .before .before .before .before .before .before .before .before .slice-count .ensures) (c .before .before .before .before .before .before .selected .ensures .0),
+      c .before .before .before .before .take-slice .ensures .1 ∙ zeroed-in-tile (a .vector-bytes) _ _ [] _ (a .operation) (c .before .before .before .before .before .before .before .before .before .before .before .before .slice-count .ensures) (c .before .before .before .before .before .before .selected .ensures .0),
+    )
+
+pub take-from-tile-spec : {M : Type 1} → statement M
+take-from-tile-spec =
+    tie.close
+    (tie.spec
+    (λ c κs. search needs)
+    (λ c. search needs)
+    (λ c. search needs)
+    (λ c. search needs)
+    (λ c. search needs)
+    selected-requires
+    (λ c. search needs)
+    mul-take-slice
+    take-slice-requires
+    (λ c. search needs)
+    (λ c. search needs)
+    returns)

@@ -1,0 +1,7 @@
+-- In reading order.
+pub mod Answer
+pub mod Store
+pub mod Effect
+pub mod Execute
+pub mod Examples
+pub mod Promise

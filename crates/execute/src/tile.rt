@@ -1,0 +1,69 @@
+// Moves between a vector register and a tile slice (document 01 §5).
+ghost use mathlib.Core.Path.{_≡_};
+ghost use lib.ListN.{length};
+ghost use Rattle.encoding.specs.Range.{ToTileInRange, FromTileInRange};
+ghost use Rattle.execute.specs.Effect.{movedToTile, takenFromTile, zeroedInTile};
+ghost use Rattle.execute.specs.Promise.{Sized};
+use crate::select::selected;
+use crate::select::slice_count;
+use encoding::TileToVector;
+use encoding::VectorToTile;
+
+// Copies the active elements of a vector register to a slice of a tile.
+pub(crate) fn move_to_tile(
+    operation: VectorToTile,
+    vector_bytes: usize,
+    x: &[u64],
+    z: &[u8],
+    p: &[u8],
+    za: &mut [u8],
+)
+    requires { ⌜ Sized «vector_bytes» (length (now x)) (length (now z)) (length (now p)) (length (now za)) × ToTileInRange operation ⌝ }
+    ensures { λ _. ⌜ now (za .exit) ≡ movedToTile «vector_bytes» «vector_bytes» (now (x .entry)) (now (p .entry)) operation (now (z .entry)) (now (za .entry)) ⌝ }
+{
+    let size = operation.size;
+    let direction = operation.direction;
+    let n = slice_count(vector_bytes, size);
+    moves::move_to_slice(
+        za,
+        z,
+        p,
+        vector_bytes,
+        vector_bytes,
+        size,
+        operation.zad as usize,
+        direction,
+        selected(x[operation.rs as usize], operation.off, n),
+        operation.zn as usize * vector_bytes,
+        operation.pg as usize * (vector_bytes / 8),
+    );
+}
+
+// Moves a slice of a tile to a vector register; the slice is then zero.
+pub(crate) fn take_from_tile(
+    operation: TileToVector,
+    vector_bytes: usize,
+    x: &[u64],
+    z: &mut [u8],
+    p: &[u8],
+    za: &mut [u8],
+)
+    requires { ⌜ Sized «vector_bytes» (length (now x)) (length (now z)) (length (now p)) (length (now za)) × FromTileInRange operation ⌝ }
+    ensures { λ _. ⌜ now (z .exit) ≡ takenFromTile «vector_bytes» «vector_bytes» (now (x .entry)) (now (p .entry)) operation (now (z .entry)) (now (za .entry)) ⌝ }
+    ensures { λ _. ⌜ now (za .exit) ≡ zeroedInTile «vector_bytes» «vector_bytes» (now (x .entry)) (now (p .entry)) operation (now (za .entry)) ⌝ }
+{
+    let size = operation.size;
+    let direction = operation.direction;
+    let n = slice_count(vector_bytes, size);
+    moves::take_slice(
+        za,
+        z,
+        vector_bytes,
+        vector_bytes,
+        size,
+        operation.zan as usize,
+        direction,
+        selected(x[operation.rs as usize], operation.off, n),
+        operation.zd as usize * vector_bytes,
+    );
+}

@@ -1,0 +1,6 @@
+mod CallLaws
+mod MoveFacts
+mod PhaseLaws
+pub mod Exhibit
+pub mod Crossing
+pub mod Between

@@ -1,0 +1,5 @@
+-- In reading order.
+pub mod Calls
+pub mod Crossing
+pub mod Between
+pub mod Exhibit

@@ -1,0 +1,1 @@
+// Theorems about execution: no code that a host calls.
