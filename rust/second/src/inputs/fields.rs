@@ -26,7 +26,7 @@ const SEED: u64 = 0x5EC0_0002;
 
 /// The whole list, without doubles.
 pub fn list() -> Vec<Numbers> {
-    let mut fields = Fields::new();
+    let mut fields = Fields::default();
     add_examples(&mut fields);
     for row in &ROWS {
         add_good(&mut fields, row);

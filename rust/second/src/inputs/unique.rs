@@ -8,14 +8,16 @@ pub struct Unique<T> {
     items: Vec<T>,
 }
 
-impl<T: Copy + Eq + Hash> Unique<T> {
-    pub fn new() -> Unique<T> {
+impl<T> Default for Unique<T> {
+    fn default() -> Unique<T> {
         Unique {
             seen: HashSet::new(),
             items: Vec::new(),
         }
     }
+}
 
+impl<T: Copy + Eq + Hash> Unique<T> {
     /// Adds `item` unless it is there already.
     pub fn add(&mut self, item: T) {
         if self.seen.insert(item) {

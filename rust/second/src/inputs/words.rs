@@ -10,7 +10,7 @@ const LEVELS: [u8; 6] = [0, 1, 2, 3, 4, 255];
 
 /// Words close to the table that are other instructions or unallocated.
 /// The comments name Arm's instruction where there is one.
-const NEIGHBOURS: [u32; 68] = [
+pub const NEIGHBOURS: [u32; 68] = [
     // Vectors to tile and vectors to array, the other direction.
     0xC004_0000,
     0xC004_0400,
@@ -100,7 +100,7 @@ type Words = Unique<(u32, u8)>;
 
 /// The whole list, without doubles.
 pub fn list() -> Vec<(u32, u8)> {
-    let mut words = Words::new();
+    let mut words = Words::default();
     add_examples(&mut words);
     add_at_all_levels(&mut words, &NEIGHBOURS);
     for row in &ROWS {

@@ -1,5 +1,5 @@
-//! Unit tests: the worked examples of document 01, section 7, as far as
-//! they speak of words, and the two ways against each other and the table.
+//! The worked examples of document 01, section 7, as far as they speak of
+//! words, and decoding and encoding against each other and the table.
 
 use crate::decode::decode;
 use crate::encode::encode;
@@ -67,12 +67,24 @@ fn neighbours_of_example_eleven_encode() {
     assert_eq!(encode(&Flat::from_bytes(four)), Ok(0xC006_0C04));
 }
 
-/// Section 6: the numbers of the refusals.
+/// Section 6: the numbers of the refusals; only 7 carries an address.
 #[test]
 fn refusal_numbers() {
-    assert_eq!(Refusal::Level.number(), 1);
-    assert_eq!(Refusal::Undecodable.number(), 3);
-    assert_eq!(Refusal::Field.number(), 8);
+    let numbered = [
+        (Refusal::Level, 1),
+        (Refusal::VectorLength, 1),
+        (Refusal::Length, 2),
+        (Refusal::Undecodable, 3),
+        (Refusal::StreamingOff, 4),
+        (Refusal::ZaOff, 5),
+        (Refusal::StackPointer, 6),
+        (Refusal::Fault { address: 9 }, 7),
+        (Refusal::Field, 8),
+    ];
+    for (refusal, number) in numbered {
+        assert_eq!(refusal.number(), number);
+        assert_eq!(refusal.address(), if number == 7 { 9 } else { 0 });
+    }
 }
 
 /// Every word of every row against the table, both ways and at all levels.

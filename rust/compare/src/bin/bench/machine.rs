@@ -1,0 +1,141 @@
+//! The buffers that all contestants work on.
+
+use crate::plain;
+use crate::task::{Active, Task};
+use compare::ffi;
+use second::execute::{execute, Settings};
+use second::inputs::random::Random;
+use std::hint::black_box;
+
+/// Where memory stands.
+const ADDRESS: u64 = 0x10000;
+/// The value of every index register: a slice of the smallest tile that is
+/// timed, and not the first.
+const INDEX: u64 = 3;
+
+/// Settings, word and buffers of one operation.
+pub struct Machine {
+    pub vector_bytes: usize,
+    element_bytes: usize,
+    settings: Settings,
+    word: u32,
+    x: Vec<u64>,
+    z: Vec<u8>,
+    p: Vec<u8>,
+    za: Vec<u8>,
+    memory: Vec<u8>,
+}
+
+impl Machine {
+    pub fn new(vector_bytes: usize, task: &Task) -> Machine {
+        let mut random = Random::new(1);
+        let mut bytes = |length: usize| {
+            let mut bytes = vec![0; length];
+            random.fill(&mut bytes);
+            bytes
+        };
+        let mut x = vec![INDEX; 32];
+        x[1] = ADDRESS;
+        x[2] = 0;
+        Machine {
+            vector_bytes,
+            element_bytes: task.element_bytes,
+            settings: Settings {
+                vector_bytes: vector_bytes as u64,
+                level: 3,
+                streaming: true,
+                za_on: true,
+                memory_address: ADDRESS,
+            },
+            word: task.word,
+            x,
+            z: bytes(32 * vector_bytes),
+            p: predicates(vector_bytes, task),
+            za: bytes(vector_bytes * vector_bytes),
+            memory: bytes(vector_bytes),
+        }
+    }
+
+    pub fn archive(&mut self) -> u32 {
+        let word = black_box(self.word);
+        ffi::execute(
+            &self.settings,
+            word,
+            &mut self.x,
+            &mut self.z,
+            &mut self.p,
+            &mut self.za,
+            &mut self.memory,
+        )
+        .0
+    }
+
+    pub fn second(&mut self) -> u32 {
+        let word = black_box(self.word);
+        execute(
+            &self.settings,
+            word,
+            &self.x,
+            &mut self.z,
+            &self.p,
+            &mut self.za,
+            &mut self.memory,
+        )
+        .0
+    }
+
+    /// A plain copy from ZA to the vector registers, and clearing of what was copied if asked for.
+    pub fn copy(&mut self, bytes: usize, zeroes: bool) {
+        let bytes = black_box(bytes);
+        let to = black_box(&mut self.z[..bytes]);
+        to.copy_from_slice(black_box(&self.za[..bytes]));
+        if zeroes {
+            black_box(&mut self.za[..bytes]).fill(0);
+        }
+    }
+
+    /// The tile of the task: the byte tile, or tile 1 of four bytes.
+    fn column(&self) -> plain::Column {
+        plain::Column {
+            vector_bytes: black_box(self.vector_bytes),
+            tile: black_box(usize::from(self.element_bytes > 1)),
+            slice: black_box(INDEX as usize),
+        }
+    }
+
+    pub fn strided_to_tile(&mut self) {
+        let column = self.column();
+        let source = &self.z[self.vector_bytes..];
+        match self.element_bytes {
+            1 => plain::to_tile::<1>(&column, &mut self.za, source, &self.p),
+            _ => plain::to_tile::<4>(&column, &mut self.za, source, &self.p),
+        }
+    }
+
+    pub fn strided_from_tile(&mut self) {
+        let column = self.column();
+        let target = &mut self.z[self.vector_bytes..];
+        match self.element_bytes {
+            1 => plain::from_tile::<1>(&column, &mut self.za, target),
+            _ => plain::from_tile::<4>(&column, &mut self.za, target),
+        }
+    }
+
+    pub fn strided_store(&mut self) {
+        let column = self.column();
+        plain::store(&column, &self.za, &mut self.memory, &self.p);
+    }
+}
+
+/// Predicate 0 governs; the others are left empty.
+fn predicates(vector_bytes: usize, task: &Task) -> Vec<u8> {
+    let step = match task.active {
+        Active::All => task.element_bytes,
+        Active::Alternating => 2 * task.element_bytes,
+    };
+    let mut p = vec![0; 2 * vector_bytes];
+    for bit in (0..vector_bytes).step_by(step) {
+        p[bit / 8] |= 1 << (bit % 8);
+    }
+    p
+}

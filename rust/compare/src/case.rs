@@ -1,0 +1,100 @@
+//! One case, and what each of the two programs makes of it.
+
+use crate::ffi;
+use second::execute::{execute_with, Buffers, Mistake, Settings};
+
+/// A state and a word. The buffers are used again for the next case, so
+/// that no case has to ask for room.
+pub struct Case {
+    pub settings: Settings,
+    pub word: u32,
+    pub x: Vec<u64>,
+    pub z: Vec<u8>,
+    pub p: Vec<u8>,
+    pub za: Vec<u8>,
+    pub memory: Vec<u8>,
+}
+
+impl Case {
+    /// A case with empty buffers, to be filled by the generator.
+    pub fn empty() -> Case {
+        Case {
+            settings: Settings {
+                vector_bytes: 0,
+                level: 0,
+                streaming: false,
+                za_on: false,
+                memory_address: 0,
+            },
+            word: 0,
+            x: Vec::new(),
+            z: Vec::new(),
+            p: Vec::new(),
+            za: Vec::new(),
+            memory: Vec::new(),
+        }
+    }
+}
+
+/// The answer of one program and the buffers as it left them.
+#[derive(Default)]
+pub struct Outcome {
+    pub answer: u32,
+    pub address: u64,
+    pub x: Vec<u64>,
+    pub z: Vec<u8>,
+    pub p: Vec<u8>,
+    pub za: Vec<u8>,
+    pub memory: Vec<u8>,
+}
+
+impl Outcome {
+    /// Runs the case through the second program.
+    pub fn run_second(&mut self, case: &Case, mistake: Mistake) {
+        self.copy_buffers(case);
+        let buffers = Buffers {
+            x: &self.x,
+            z: &mut self.z,
+            p: &self.p,
+            za: &mut self.za,
+            memory: &mut self.memory,
+        };
+        (self.answer, self.address) = execute_with(mistake, &case.settings, case.word, buffers);
+    }
+
+    /// Runs the case through the archive.
+    pub fn run_archive(&mut self, case: &Case) {
+        self.copy_buffers(case);
+        (self.answer, self.address) = ffi::execute(
+            &case.settings,
+            case.word,
+            &mut self.x,
+            &mut self.z,
+            &mut self.p,
+            &mut self.za,
+            &mut self.memory,
+        );
+    }
+
+    /// The buffers as the case has them, in the room of the last case.
+    fn copy_buffers(&mut self, case: &Case) {
+        self.x.clone_from(&case.x);
+        self.z.clone_from(&case.z);
+        self.p.clone_from(&case.p);
+        self.za.clone_from(&case.za);
+        self.memory.clone_from(&case.memory);
+    }
+
+    /// Whether both answered alike and left the same bytes. X and P of the
+    /// second program are as in the case, since it cannot write them, so
+    /// this also shows that the archive left them alone.
+    pub fn agrees(&self, other: &Outcome) -> bool {
+        self.answer == other.answer
+            && self.address == other.address
+            && self.x == other.x
+            && self.p == other.p
+            && self.z == other.z
+            && self.za == other.za
+            && self.memory == other.memory
+    }
+}

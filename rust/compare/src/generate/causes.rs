@@ -1,0 +1,50 @@
+//! Which causes of refusal a case is to have.
+
+use second::inputs::random::Random;
+
+/// How many of a hundred cases are aimed at each answer. More than half are
+/// to be done, as only those move anything.
+const SHARES: [usize; 8] = [60, 6, 6, 8, 4, 4, 4, 8];
+
+/// The causes by their numbers; no cause is no refusal.
+pub struct Causes {
+    present: [bool; 8],
+}
+
+impl Causes {
+    /// Draws the answer to aim at. A refusal often gets causes of higher
+    /// numbers too, which must not show (document 01, section 6: the lowest
+    /// number that applies is given).
+    pub fn draw(random: &mut Random) -> Causes {
+        let lowest = answer(random);
+        let mut present = [false; 8];
+        if lowest > 0 {
+            for own in &mut present[lowest + 1..] {
+                *own = random.chance(1, 4);
+            }
+            present[lowest] = true;
+        }
+        Causes { present }
+    }
+
+    pub fn has(&self, number: usize) -> bool {
+        self.present[number]
+    }
+
+    /// Whether the lowest cause is one that only a store has.
+    pub fn needs_store(&self) -> bool {
+        let lowest = self.present.iter().position(|own| *own);
+        lowest.is_some_and(|number| number >= 6)
+    }
+}
+
+/// One of the answers, by its share.
+fn answer(random: &mut Random) -> usize {
+    let mut drawn = random.below(SHARES.iter().sum());
+    let mut answer = 0;
+    while drawn >= SHARES[answer] {
+        drawn -= SHARES[answer];
+        answer += 1;
+    }
+    answer
+}

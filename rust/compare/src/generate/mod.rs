@@ -1,0 +1,75 @@
+//! Random cases, each aimed at one answer of document 01, section 6.
+//!
+//! A case is first built so that nothing is wrong with it. Then the causes
+//! of refusal that were drawn for it are put in.
+
+mod addresses;
+mod causes;
+mod lengths;
+mod memory;
+mod predicates;
+mod registers;
+pub mod settings;
+mod words;
+
+use crate::case::Case;
+use causes::Causes;
+use second::flat::{self, Flat};
+use second::inputs::random::Random;
+
+/// Fills `case` anew.
+pub fn generate(random: &mut Random, case: &mut Case) {
+    let causes = Causes::draw(random);
+    let row = words::row(random, &causes);
+    let bits = words::fields(random, row, &causes);
+    let operation = Flat::from_bytes(row.numbers(&bits));
+    case.word = row.word(&bits);
+    settings::set(random, case, row.level);
+    let vector_bytes = case.settings.vector_bytes as usize;
+    fill(random, case, vector_bytes);
+    predicates::set(random, case, &operation);
+    registers::set_index(random, case, &operation);
+    if operation.kind == flat::STORE {
+        addresses::set(random, case, &operation, &causes);
+    }
+    spoil(random, case, row.level, &causes);
+}
+
+/// Buffers of the right lengths with random bytes. Memory is placed first,
+/// as addresses are aimed at it.
+fn fill(random: &mut Random, case: &mut Case, vector_bytes: usize) {
+    case.x.clear();
+    case.x.extend((0..32).map(|_| registers::value(random)));
+    fill_bytes(random, &mut case.z, 32 * vector_bytes);
+    fill_bytes(random, &mut case.p, 16 * (vector_bytes / 8));
+    fill_bytes(random, &mut case.za, vector_bytes * vector_bytes);
+    let length = memory::length(random, vector_bytes);
+    fill_bytes(random, &mut case.memory, length);
+    case.settings.memory_address = memory::address(random, length);
+}
+
+fn fill_bytes(random: &mut Random, bytes: &mut Vec<u8>, length: usize) {
+    bytes.resize(length, 0);
+    random.fill(bytes);
+}
+
+/// Puts in the causes 1 to 5; the store's own two are in its addresses
+/// already. Lengths are spoiled before the vector length, so that they are
+/// also wrong by one from what a refused vector length would fix.
+fn spoil(random: &mut Random, case: &mut Case, level: u8, causes: &Causes) {
+    if causes.has(5) {
+        case.settings.za_on = false;
+    }
+    if causes.has(4) {
+        case.settings.streaming = false;
+    }
+    if causes.has(3) {
+        words::spoil(random, case, level);
+    }
+    if causes.has(2) {
+        lengths::spoil(random, case);
+    }
+    if causes.has(1) {
+        settings::spoil(random, case);
+    }
+}

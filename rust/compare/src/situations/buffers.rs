@@ -1,0 +1,50 @@
+//! Situations of the buffers' lengths.
+
+use super::Situations;
+use crate::view::View;
+
+/// The buffers whose length the vector length fixes, and that length.
+const FIXED: [(&str, Length, Length); 4] = [
+    ("X", |v| v.case.x.len() as u64, |_| 32),
+    ("Z", |v| v.case.z.len() as u64, |v| 32 * v.vector_bytes()),
+    ("P", |v| v.case.p.len() as u64, |v| 2 * v.vector_bytes()),
+    (
+        "ZA",
+        |v| v.case.za.len() as u64,
+        |v| v.vector_bytes() * v.vector_bytes(),
+    ),
+];
+
+type Length = fn(&View) -> u64;
+
+pub fn name(all: &mut Situations) {
+    for (buffer, own, right) in FIXED {
+        all.name(format!("{buffer} one too short, 2"), move |v| {
+            v.answer == 2 && own(v) + 1 == right(v)
+        });
+        all.name(format!("{buffer} one too long, 2"), move |v| {
+            v.answer == 2 && own(v) == right(v) + 1
+        });
+        all.name(format!("{buffer} empty, 2"), move |v| {
+            v.answer == 2 && own(v) == 0
+        });
+    }
+    name_memory_ends(all);
+}
+
+fn name_memory_ends(all: &mut Situations) {
+    const LAST: u128 = 1 << 64;
+    all.name("memory ends at 2^64 - 1, done", |v| {
+        v.done() && v.memory_end() == LAST - 1
+    });
+    all.name("memory ends at 2^64, done", |v| {
+        v.done() && v.memory_end() == LAST
+    });
+    all.name("memory ends at 2^64 + 1, only that wrong, 2", |v| {
+        v.answer == 2 && v.memory_end() == LAST + 1 && fixed_lengths(v)
+    });
+}
+
+fn fixed_lengths(v: &View) -> bool {
+    FIXED.iter().all(|(_, own, right)| own(v) == right(v))
+}

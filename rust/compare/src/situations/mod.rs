@@ -1,0 +1,67 @@
+//! Situations that the table does not show but that a run must contain.
+
+mod buffers;
+mod settings;
+mod slices;
+mod stores;
+
+use crate::view::View;
+use std::fmt::{self, Display, Formatter};
+
+/// A situation: its name, how to know it, and how often it was met.
+struct Situation {
+    name: String,
+    holds: Box<dyn Fn(&View) -> bool>,
+    count: u64,
+}
+
+/// All situations.
+pub struct Situations {
+    list: Vec<Situation>,
+}
+
+impl Default for Situations {
+    fn default() -> Situations {
+        let mut all = Situations { list: Vec::new() };
+        slices::name(&mut all);
+        stores::name(&mut all);
+        buffers::name(&mut all);
+        settings::name(&mut all);
+        all
+    }
+}
+
+impl Situations {
+    /// Names a situation that is to be met.
+    fn name(&mut self, name: impl Into<String>, holds: impl Fn(&View) -> bool + 'static) {
+        self.list.push(Situation {
+            name: name.into(),
+            holds: Box::new(holds),
+            count: 0,
+        });
+    }
+
+    /// Counts the situations of one case.
+    pub fn add(&mut self, view: &View) {
+        for situation in &mut self.list {
+            if (situation.holds)(view) {
+                situation.count += 1;
+            }
+        }
+    }
+
+    /// The situations that were not met.
+    pub fn missing(&self) -> Vec<String> {
+        let missing = self.list.iter().filter(|own| own.count == 0);
+        missing.map(|own| format!("never: {}", own.name)).collect()
+    }
+}
+
+impl Display for Situations {
+    fn fmt(&self, f: &mut Formatter) -> fmt::Result {
+        for situation in &self.list {
+            writeln!(f, "{:>7}  {}", situation.count, situation.name)?;
+        }
+        Ok(())
+    }
+}

@@ -1,0 +1,58 @@
+//! Situations of the slice number and the governing predicate.
+
+use super::Situations;
+use crate::view::View;
+use second::flat;
+
+pub fn name(all: &mut Situations) {
+    name_directions(all);
+    name_indexes(all);
+    name_predicates(all);
+}
+
+fn name_directions(all: &mut Situations) {
+    let kinds = [
+        ("move to tile", flat::MOVA_TO_TILE),
+        ("move and zero from tile", flat::MOVAZ_FROM_TILE),
+        ("store of bytes", flat::STORE),
+    ];
+    for (name, kind) in kinds {
+        for (direction, way) in [(0, "horizontal"), (1, "vertical")] {
+            all.name(format!("done, {name}, {way}"), move |v| {
+                let own = |own: flat::Flat| own.kind == kind && own.direction == direction;
+                v.done() && v.operation.is_some_and(own)
+            });
+        }
+    }
+}
+
+fn name_indexes(all: &mut Situations) {
+    all.name("done, W + offset at 2^32 or above", |v| {
+        v.done() && v.index_sum() >= 1 << 32
+    });
+    all.name("done, W + offset below 2^32, not below n", |v| {
+        v.done() && v.index_sum() < 1 << 32 && v.index_sum() >= v.elements()
+    });
+    all.name("done, W + offset below n", |v| {
+        v.done() && v.index_sum() < v.elements()
+    });
+}
+
+fn name_predicates(all: &mut Situations) {
+    let done = |v: &View| v.done() && v.predicated();
+    all.name("done, all elements active", move |v| {
+        done(v) && v.active.len() as u64 == v.elements()
+    });
+    all.name("done, one element of several active", move |v| {
+        done(v) && v.active.len() == 1 && v.elements() > 1
+    });
+    all.name("done, some elements active", move |v| {
+        done(v) && v.active.len() > 1 && (v.active.len() as u64) < v.elements()
+    });
+    all.name("done, predicate without any bit", move |v| {
+        done(v) && v.predicate().iter().all(|byte| *byte == 0)
+    });
+    all.name("done, no element active but other bits set", move |v| {
+        done(v) && v.active.is_empty() && v.predicate().iter().any(|byte| *byte != 0)
+    });
+}

@@ -1,0 +1,171 @@
+//! How often each answer was given, by encoding and vector length.
+
+use crate::case::Case;
+use second::execute::VECTOR_LENGTHS;
+use second::inputs::rows::{Row, ROWS};
+use std::fmt::{self, Display, Formatter};
+
+/// The thirteen encodings, in the order of document 01, section 4, and the
+/// words without any.
+const NAMES: [&str; 14] = [
+    "move to tile, m=1",
+    "move to tile, m=2",
+    "move to tile, m=4",
+    "move to tile, m=8",
+    "move to tile, m=16",
+    "move and zero from tile, m=1",
+    "move and zero from tile, m=2",
+    "move and zero from tile, m=4",
+    "move and zero from tile, m=8",
+    "move and zero from tile, m=16",
+    "move from array, four",
+    "move and zero from array, two",
+    "store of bytes",
+    "no encoding",
+];
+const STORE: usize = 12;
+const NO_ENCODING: usize = 13;
+/// The answers of execution, 0 to 7.
+const ANSWERS: usize = 8;
+
+/// Counts by encoding, vector length and answer.
+///
+/// A case whose vector length is not one of the five has no line to stand
+/// in; it is answered 1 and counted apart, by encoding.
+pub struct Table {
+    counts: [[[u64; ANSWERS]; VECTOR_LENGTHS.len()]; NAMES.len()],
+    other_length: [u64; NAMES.len()],
+    strange: Vec<String>,
+}
+
+impl Default for Table {
+    fn default() -> Table {
+        Table {
+            counts: [[[0; ANSWERS]; VECTOR_LENGTHS.len()]; NAMES.len()],
+            other_length: [0; NAMES.len()],
+            strange: Vec::new(),
+        }
+    }
+}
+
+impl Table {
+    /// Counts one case.
+    pub fn add(&mut self, case: &Case, answer: u32) {
+        let row = encoding(case.word).unwrap_or(NO_ENCODING);
+        let given = case.settings.vector_bytes;
+        let length = VECTOR_LENGTHS.iter().position(|own| *own == given);
+        match (length, answer as usize) {
+            (Some(length), answer) if answer < ANSWERS => self.counts[row][length][answer] += 1,
+            (None, 1) => self.other_length[row] += 1,
+            _ => self.strange.push(format!(
+                "{}, vector length {given}: answer {answer}",
+                NAMES[row]
+            )),
+        }
+    }
+
+    /// Cells that can occur and are empty, and too few cases done.
+    pub fn missing(&self) -> Vec<String> {
+        let mut missing = self.cells(|possible, count| possible && count == 0);
+        for (row, name) in NAMES.iter().enumerate() {
+            if self.other_length[row] == 0 {
+                missing.push(format!("{name}, other vector length: 0 cases"));
+            }
+        }
+        if 2 * self.answered(0) < self.total() {
+            missing.push("less than half of the cases are done".to_string());
+        }
+        missing
+    }
+
+    /// Answers that document 01 does not allow, although both agree on them.
+    pub fn impossible(&self) -> Vec<String> {
+        let mut impossible = self.cells(|possible, count| !possible && count > 0);
+        impossible.extend_from_slice(&self.strange);
+        impossible
+    }
+
+    /// The cells that `chosen` picks by whether they can occur and by count.
+    fn cells(&self, chosen: impl Fn(bool, u64) -> bool) -> Vec<String> {
+        let mut cells = Vec::new();
+        for (row, name) in NAMES.iter().enumerate() {
+            for (bytes, line) in VECTOR_LENGTHS.iter().zip(&self.counts[row]) {
+                for (answer, &count) in line.iter().enumerate() {
+                    if chosen(can_occur(row, answer), count) {
+                        let cell = format!("{name}, vector length {bytes}, answer {answer}");
+                        cells.push(format!("{cell}: {count} cases"));
+                    }
+                }
+            }
+        }
+        cells
+    }
+
+    /// How many cases had this answer.
+    pub fn answered(&self, answer: usize) -> u64 {
+        let lines = self.counts.iter().flatten();
+        let apart = if answer == 1 {
+            self.other_length.iter().sum()
+        } else {
+            0
+        };
+        lines.map(|line| line[answer]).sum::<u64>() + apart
+    }
+
+    fn total(&self) -> u64 {
+        (0..ANSWERS).map(|answer| self.answered(answer)).sum()
+    }
+}
+
+/// Which answers document 01 allows: 6 and 7 to the store only, 0 and what
+/// comes after decoding only to a word with an encoding. Every encoding has
+/// a level below its own, so that 3 can occur to each.
+fn can_occur(row: usize, answer: usize) -> bool {
+    match answer {
+        1..=3 => true,
+        6 | 7 => row == STORE,
+        _ => row != NO_ENCODING,
+    }
+}
+
+/// The row of the table in section 4 that the word belongs to, whatever the
+/// level.
+fn encoding(word: u32) -> Option<usize> {
+    let fits = |row: &Row| (word ^ row.base) & row.fixed() == 0;
+    ROWS.iter().position(fits)
+}
+
+impl Display for Table {
+    fn fmt(&self, f: &mut Formatter) -> fmt::Result {
+        write!(f, "{:<30} {:>6}", "encoding", "length")?;
+        for answer in 0..ANSWERS {
+            write!(f, " {answer:>6}")?;
+        }
+        writeln!(f)?;
+        for (row, name) in NAMES.iter().enumerate() {
+            for (length, bytes) in VECTOR_LENGTHS.iter().enumerate() {
+                write!(f, "{name:<30} {bytes:>6}")?;
+                write_line(f, row, &self.counts[row][length])?;
+            }
+            let apart = self.other_length[row];
+            writeln!(f, "{name:<30} {:>6} {:>6} {apart:>6}", "other", "-")?;
+        }
+        write!(f, "{:<30} {:>6}", "all", "")?;
+        for answer in 0..ANSWERS {
+            write!(f, " {:>6}", self.answered(answer))?;
+        }
+        writeln!(f)
+    }
+}
+
+/// One line of counts; a dash where nothing can be.
+fn write_line(f: &mut Formatter, row: usize, line: &[u64; ANSWERS]) -> fmt::Result {
+    for (answer, &count) in line.iter().enumerate() {
+        if count == 0 && !can_occur(row, answer) {
+            write!(f, " {:>6}", "-")?;
+        } else {
+            write!(f, " {count:>6}")?;
+        }
+    }
+    writeln!(f)
+}

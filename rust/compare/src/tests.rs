@@ -1,0 +1,74 @@
+//! Unit tests of the comparison itself; they do not ask the archive.
+
+use crate::arguments::Arguments;
+use crate::case::{Case, Outcome};
+use crate::generate::generate;
+use crate::situations::Situations;
+use crate::table::Table;
+use crate::view::View;
+use second::execute::Mistake;
+use second::inputs::random::Random;
+use std::ffi::OsString;
+
+fn read(line: &str) -> Result<Arguments, String> {
+    Arguments::read(line.split_whitespace().map(OsString::from))
+}
+
+#[test]
+fn arguments_are_read() {
+    let plain = read("").unwrap();
+    assert_eq!((plain.count, plain.mistake), (200_000, Mistake::None));
+    let all = read("--mistake TileAsBlock --seed 0x1F --count 12").unwrap();
+    assert_eq!((all.seed, all.count), (31, 12));
+    assert_eq!(all.mistake, Mistake::TileAsBlock);
+}
+
+#[test]
+fn bad_arguments_are_errors() {
+    for line in ["--seed", "--seed x", "--mistake Tile", "--other 1", "7"] {
+        assert!(read(line).is_err(), "{line}");
+    }
+}
+
+/// Sixty thousand cases, by the second program alone, leave nothing to
+/// complain of.
+#[test]
+fn cases_reach_all_that_can_occur() {
+    let mut random = Random::new(11);
+    let mut case = Case::empty();
+    let mut outcome = Outcome::default();
+    let mut table = Table::default();
+    let mut situations = Situations::default();
+    for _ in 0..60_000 {
+        generate(&mut random, &mut case);
+        outcome.run_second(&case, Mistake::None);
+        table.add(&case, outcome.answer);
+        situations.add(&View::new(&case, &outcome));
+    }
+    let nothing = Vec::<String>::new();
+    assert_eq!(table.missing(), nothing);
+    assert_eq!(table.impossible(), nothing);
+    assert_eq!(situations.missing(), nothing);
+}
+
+/// An empty run has much to complain of.
+#[test]
+fn missing_cells_are_told() {
+    let missing = Table::default().missing();
+    // Twelve encodings have six answers, the store eight, the words without
+    // an encoding three, each at five lengths; fourteen more are apart.
+    assert_eq!(missing.len(), (12 * 6 + 8 + 3) * 5 + 14);
+}
+
+/// An answer that no word of the case may get is told.
+#[test]
+fn impossible_cells_are_told() {
+    let mut case = Case::empty();
+    case.settings.vector_bytes = 16;
+    case.word = 0xC000_0010;
+    for (answer, told) in [(0, 1), (2, 0), (3, 0), (5, 1), (7, 1), (255, 1)] {
+        let mut table = Table::default();
+        table.add(&case, answer);
+        assert_eq!(table.impossible().len(), told, "{answer}");
+    }
+}

@@ -1,0 +1,161 @@
+//! What a case looks like from outside, for counting and for printing.
+
+use crate::case::{Case, Outcome};
+use second::decode::decode;
+use second::flat::{self, Flat};
+
+/// Addresses wrap here.
+const ADDRESSES: u128 = 1 << 64;
+
+/// A case, its answer, and some numbers worked out of it.
+pub struct View<'a> {
+    pub case: &'a Case,
+    pub answer: u32,
+    pub address: u64,
+    /// What the word decodes to at the highest level.
+    pub operation: Option<Flat>,
+    /// The numbers of the active elements, where there is a predicate.
+    pub active: Vec<usize>,
+}
+
+impl<'a> View<'a> {
+    pub fn new(case: &'a Case, outcome: &Outcome) -> View<'a> {
+        let operation = decode(case.word, 3).ok();
+        View {
+            case,
+            answer: outcome.answer,
+            address: outcome.address,
+            operation,
+            active: operation.map_or(Vec::new(), |own| active(case, &own)),
+        }
+    }
+
+    pub fn done(&self) -> bool {
+        self.answer == 0
+    }
+
+    pub fn vector_bytes(&self) -> u64 {
+        self.case.settings.vector_bytes
+    }
+
+    pub fn store(&self) -> bool {
+        self.operation.is_some_and(|own| own.kind == flat::STORE)
+    }
+
+    /// Whether the operation has a governing predicate.
+    pub fn predicated(&self) -> bool {
+        self.operation.is_some_and(|own| predicated(&own))
+    }
+
+    /// The bytes of the governing predicate.
+    pub fn predicate(&self) -> &[u8] {
+        let register = self.operation.map_or(0, |own| own.predicate);
+        predicate(self.case, register)
+    }
+
+    /// What the index sum is reduced by (document 01, section 5).
+    pub fn elements(&self) -> u64 {
+        self.vector_bytes() / self.operation.map_or(1, |own| parts(&own))
+    }
+
+    /// W + offset.
+    pub fn index_sum(&self) -> u64 {
+        let sum = |own: Flat| self.x(own.index) % (1 << 32) + u64::from(own.offset);
+        self.operation.map_or(0, sum)
+    }
+
+    /// The base register of a store.
+    pub fn base(&self) -> Option<u8> {
+        let store = self.operation.filter(|_| self.store());
+        store.map(|own| own.base)
+    }
+
+    /// The offset register of a store.
+    pub fn offset_register(&self) -> Option<u8> {
+        let store = self.operation.filter(|_| self.store());
+        store.map(|own| own.offset_register)
+    }
+
+    /// The address of element 0 of a store.
+    pub fn start(&self) -> u128 {
+        let base = self.base().map_or(0, |number| self.x(number));
+        let offset = match self.offset_register() {
+            Some(31) | None => 0,
+            Some(number) => self.x(number),
+        };
+        (u128::from(base) + u128::from(offset)) % ADDRESSES
+    }
+
+    /// The address of the first active element of a store.
+    pub fn first_address(&self) -> Option<u128> {
+        let first = self.active.first();
+        first.map(|e| (self.start() + *e as u128) % ADDRESSES)
+    }
+
+    /// The address of the last active element of a store.
+    pub fn last_address(&self) -> Option<u128> {
+        let last = self.active.last();
+        last.map(|e| (self.start() + *e as u128) % ADDRESSES)
+    }
+
+    /// Whether an active element's number takes its address past 2^64.
+    pub fn wraps(&self) -> bool {
+        self.last_address().is_some_and(|last| last < self.start())
+    }
+
+    pub fn memory_start(&self) -> u128 {
+        u128::from(self.case.settings.memory_address)
+    }
+
+    /// One past the last address of memory.
+    pub fn memory_end(&self) -> u128 {
+        self.memory_start() + self.case.memory.len() as u128
+    }
+
+    pub fn in_memory(&self, address: u128) -> bool {
+        (self.memory_start()..self.memory_end()).contains(&address)
+    }
+
+    /// Whether the stack pointer is a multiple of 16.
+    pub fn aligned(&self) -> bool {
+        self.x(31).is_multiple_of(16)
+    }
+
+    /// A register, or 0 where X is too short to have it.
+    fn x(&self, number: u8) -> u64 {
+        let found = self.case.x.get(usize::from(number));
+        found.copied().unwrap_or(0)
+    }
+}
+
+/// By what the vector length is divided to give the modulus of the index.
+fn parts(operation: &Flat) -> u64 {
+    let array = [flat::MOVA_ARRAY, flat::MOVAZ_ARRAY].contains(&operation.kind);
+    u64::from(if array {
+        operation.vectors
+    } else {
+        operation.element_bytes
+    })
+}
+
+fn predicated(operation: &Flat) -> bool {
+    [flat::MOVA_TO_TILE, flat::STORE].contains(&operation.kind)
+}
+
+/// The bytes of a predicate register, or none where P is too short.
+fn predicate(case: &Case, register: u8) -> &[u8] {
+    let length = (case.settings.vector_bytes / 8).min(64) as usize;
+    let first = usize::from(register) * length;
+    case.p.get(first..first + length).unwrap_or(&[])
+}
+
+/// The active elements: bit e*m of the predicate (document 01, section 3).
+fn active(case: &Case, operation: &Flat) -> Vec<usize> {
+    if !predicated(operation) {
+        return Vec::new();
+    }
+    let m = usize::from(operation.element_bytes);
+    let bits = predicate(case, operation.predicate);
+    let set = |e: &usize| bits[e * m / 8] >> (e * m % 8) & 1 == 1;
+    (0..bits.len() * 8 / m).filter(set).collect()
+}

@@ -1,0 +1,18 @@
+//! The settings of a call (document 01, section 2).
+
+/// The vector lengths that there are, in bytes.
+pub const VECTOR_LENGTHS: [u64; 5] = [16, 32, 64, 128, 256];
+
+/// What the host says beside the buffers. Any number may stand in here; it
+/// is execution that refuses.
+#[derive(Clone, Copy, Debug, PartialEq, Eq)]
+pub struct Settings {
+    /// Streaming vector length in bytes.
+    pub vector_bytes: u64,
+    /// Feature level: 0 none, 1 SME, 2 SME2, 3 SME2.1.
+    pub level: u64,
+    pub streaming: bool,
+    pub za_on: bool,
+    /// The address of memory's first byte.
+    pub memory_address: u64,
+}

@@ -1,0 +1,157 @@
+//! The architectural state that one call works on (document 01, sections 2
+//! and 3), with every length checked already.
+
+use super::memory::Memory;
+use super::vector::{join, split, Vector};
+use super::{Buffers, Mistake, Settings};
+use crate::flat::Flat;
+use crate::refusal::Refusal;
+
+/// Registers, ZA and memory, and the mistake to be made on them.
+pub struct State<'a> {
+    pub mistake: Mistake,
+    pub vector_bytes: usize,
+    pub memory: Memory<'a>,
+    x: &'a [u64],
+    z: &'a mut [u8],
+    p: &'a [u8],
+    za: &'a mut [u8],
+}
+
+/// One slice of one tile.
+pub struct Slice {
+    pub tile: usize,
+    pub element_bytes: usize,
+    pub vertical: bool,
+    pub number: usize,
+}
+
+impl<'a> State<'a> {
+    pub fn new(mistake: Mistake, settings: &Settings, buffers: Buffers<'a>) -> State<'a> {
+        State {
+            mistake,
+            vector_bytes: settings.vector_bytes as usize,
+            memory: Memory::new(settings.memory_address, buffers.memory),
+            x: buffers.x,
+            z: buffers.z,
+            p: buffers.p,
+            za: buffers.za,
+        }
+    }
+
+    /// All 64 bits; number 31 is the stack pointer.
+    pub fn x(&self, number: u8) -> u64 {
+        self.x[usize::from(number)]
+    }
+
+    /// n, the elements of a vector and the slices of a tile.
+    pub fn elements(&self, element_bytes: usize) -> usize {
+        self.vector_bytes / element_bytes
+    }
+
+    /// W + offset over whole numbers, W being the low 32 bits of the index
+    /// register (section 5).
+    pub fn index_sum(&self, operation: &Flat) -> Result<u64, Refusal> {
+        let w = self.x(operation.index) & 0xFFFF_FFFF;
+        let sum = w + u64::from(operation.offset);
+        if self.mistake == Mistake::IndexAddTrapsAt32Bits && sum > 0xFFFF_FFFF {
+            return Err(Refusal::Trap);
+        }
+        Ok(sum)
+    }
+
+    /// The slice that the operation names: number (W + offset) mod n.
+    pub fn slice(&self, operation: &Flat) -> Result<Slice, Refusal> {
+        let element_bytes = usize::from(operation.element_bytes);
+        let modulus = match self.mistake {
+            Mistake::SliceModuloVectorLength => self.vector_bytes,
+            _ => self.elements(element_bytes),
+        };
+        let number = self.index_sum(operation)? % modulus as u64;
+        Ok(Slice {
+            tile: usize::from(operation.tile),
+            element_bytes,
+            vertical: operation.direction == 1,
+            number: number as usize,
+        })
+    }
+
+    /// Whether element e is active: bit e*m of the predicate and no other
+    /// is looked at (section 3).
+    pub fn active(&self, predicate: u8, e: usize, element_bytes: usize) -> bool {
+        let bit = match self.mistake {
+            Mistake::PredicateBitPerElement => e,
+            _ => e * element_bytes,
+        };
+        let register_bytes = self.vector_bytes / 8;
+        let byte = self.p[usize::from(predicate) * register_bytes + bit / 8];
+        byte >> (bit % 8) & 1 == 1
+    }
+
+    pub fn z(&self, number: usize) -> Vector {
+        let first = number * self.vector_bytes;
+        Vector::from_bytes(&self.z[first..first + self.vector_bytes])
+    }
+
+    pub fn set_z(&mut self, number: usize, vector: &Vector) {
+        let first = number * self.vector_bytes;
+        let bytes = vector.bytes(self.vector_bytes);
+        self.z[first..first + self.vector_bytes].copy_from_slice(bytes);
+    }
+
+    pub fn za_vector(&self, number: usize) -> Vector {
+        let first = number * self.vector_bytes;
+        Vector::from_bytes(&self.za[first..first + self.vector_bytes])
+    }
+
+    pub fn set_za_vector(&mut self, number: usize, vector: &Vector) {
+        let first = number * self.vector_bytes;
+        let bytes = vector.bytes(self.vector_bytes);
+        self.za[first..first + self.vector_bytes].copy_from_slice(bytes);
+    }
+
+    /// `ZAslice[]`, read element by element.
+    pub fn za_slice(&self, slice: &Slice) -> Vector {
+        let m = slice.element_bytes;
+        let mut result = Vector::ZERO;
+        for e in 0..self.elements(m) {
+            let first = self.place(slice, e);
+            // Only a mistaken slice number leads out of ZA; it finds zeros.
+            let element = self.za.get(first..first + m).map_or(0, join);
+            result.set_element(e, m, element);
+        }
+        result
+    }
+
+    /// `ZAslice[] = vector`, written element by element.
+    pub fn set_za_slice(&mut self, slice: &Slice, vector: &Vector) {
+        let m = slice.element_bytes;
+        for e in 0..self.elements(m) {
+            let first = self.place(slice, e);
+            // Only a mistaken slice number leads out of ZA; it writes nothing.
+            if let Some(bytes) = self.za.get_mut(first..first + m) {
+                split(vector.element(e, m), bytes);
+            }
+        }
+    }
+
+    /// Where element e of the slice begins in ZA: a row of the tile is a ZA
+    /// vector, a column the same element of every row (section 3).
+    fn place(&self, slice: &Slice, e: usize) -> usize {
+        let (row, column) = if slice.vertical {
+            (e, slice.number)
+        } else {
+            (slice.number, e)
+        };
+        self.row_vector(slice, row) * self.vector_bytes + column * slice.element_bytes
+    }
+
+    /// The ZA vector that is row `row` of the tile: the rows of a tile are m
+    /// vectors apart.
+    fn row_vector(&self, slice: &Slice, row: usize) -> usize {
+        match self.mistake {
+            Mistake::TileAsBlock => slice.tile * self.elements(slice.element_bytes) + row,
+            _ => row * slice.element_bytes + slice.tile,
+        }
+    }
+}

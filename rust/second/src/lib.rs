@@ -1,0 +1,17 @@
+//! An independent second program for document 01: decodes, encodes and
+//! executes the words of five SME instructions, and prints the inputs on
+//! which it is compared with the first.
+
+#![forbid(unsafe_code)]
+
+pub mod commands;
+pub mod count;
+pub mod decode;
+pub mod encode;
+pub mod execute;
+pub mod flat;
+pub mod inputs;
+pub mod lines;
+pub mod refusal;
+#[cfg(test)]
+mod tests;

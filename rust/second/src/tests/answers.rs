@@ -1,0 +1,133 @@
+//! The answers of document 01, section 6: when each is given, and that the
+//! lowest goes first.
+
+use super::machine::Machine;
+
+/// A move and a store that are done on a fresh machine.
+const WORDS: [u32; 2] = [0xC000_0000, 0xE03F_03E0];
+/// A word that decodes at no level.
+const NO_ENCODING: u32 = 0xC000_0010;
+
+/// A machine on which nothing is wrong: the store writes at address 0.
+fn good(vector_bytes: usize) -> Machine {
+    let mut machine = Machine::new(vector_bytes);
+    machine.memory = vec![1; 300];
+    machine.set_all_active(0);
+    machine.x[31] = 0;
+    machine
+}
+
+/// Both words are refused with that number.
+fn refused(machine: &Machine, answer: u32) {
+    for word in WORDS {
+        machine.expect_refused(word, answer, 0);
+    }
+}
+
+#[test]
+fn good_machines_are_done() {
+    for vector_bytes in [16, 32, 64, 128, 256] {
+        for word in WORDS {
+            assert_eq!(good(vector_bytes).run(word), (0, 0));
+        }
+    }
+}
+
+/// Answer 1: any other vector length, any level above 3. Numbers whose low
+/// byte or low half would be good are among them.
+#[test]
+fn bad_settings() {
+    let mut machine = good(16);
+    for vector_bytes in [0, 1, 15, 17, 24, 48, 255, 257, 512, 1 << 32 | 16, 1 << 63] {
+        machine.settings.vector_bytes = vector_bytes;
+        refused(&machine, 1);
+    }
+    machine.settings.vector_bytes = 16;
+    for level in [4, 255, 256, 257, 1 << 32 | 3, 1 << 63, u64::MAX] {
+        machine.settings.level = level;
+        refused(&machine, 1);
+    }
+}
+
+/// Answer 2: each buffer one too short, one too long, and empty.
+#[test]
+fn wrong_lengths() {
+    for vector_bytes in [16, 256] {
+        let right = good(vector_bytes);
+        let resize = |length: usize| [length - 1, length + 1, 0];
+        for length in resize(32) {
+            let mut machine = right.clone();
+            machine.x.resize(length, 0);
+            refused(&machine, 2);
+        }
+        for length in resize(32 * vector_bytes) {
+            let mut machine = right.clone();
+            machine.z.resize(length, 0);
+            refused(&machine, 2);
+        }
+        for length in resize(2 * vector_bytes) {
+            let mut machine = right.clone();
+            machine.p.resize(length, 0);
+            refused(&machine, 2);
+        }
+        for length in resize(vector_bytes * vector_bytes) {
+            let mut machine = right.clone();
+            machine.za.resize(length, 0);
+            refused(&machine, 2);
+        }
+    }
+}
+
+/// Answer 2: memory may end at 2^64 and not beyond; empty memory may stand
+/// anywhere.
+#[test]
+fn memory_ends_at_the_last_address() {
+    let mut machine = good(16);
+    machine.settings.memory_address = u64::MAX - 299;
+    machine.x[31] = u64::MAX - 15;
+    for word in WORDS {
+        assert_eq!(machine.clone().run(word), (0, 0));
+    }
+    machine.settings.memory_address += 1;
+    refused(&machine, 2);
+    machine.memory.clear();
+    machine.settings.memory_address = u64::MAX;
+    assert_eq!(machine.clone().run(WORDS[0]), (0, 0));
+    machine.expect_refused(WORDS[1], 7, u64::MAX - 15);
+}
+
+/// The lowest number that applies: from the highest cause down, each new
+/// one takes over.
+#[test]
+fn the_lowest_number_is_given() {
+    let mut machine = good(16);
+    machine.x[31] = 1 << 40;
+    machine.expect_refused(WORDS[1], 7, 1 << 40);
+    machine.x[31] += 8;
+    machine.expect_refused(WORDS[1], 6, 0);
+    machine.settings.za_on = false;
+    machine.expect_refused(WORDS[1], 5, 0);
+    machine.settings.streaming = false;
+    machine.expect_refused(WORDS[1], 4, 0);
+    machine.expect_refused(NO_ENCODING, 3, 0);
+    machine.settings.level = 0;
+    machine.expect_refused(WORDS[1], 3, 0);
+    machine.za.pop();
+    machine.expect_refused(WORDS[1], 2, 0);
+    machine.settings.vector_bytes = 0;
+    machine.expect_refused(WORDS[1], 1, 0);
+}
+
+/// Answer 7 carries the address of the lowest-numbered element outside,
+/// which need not be the lowest address, nor that of element 0.
+#[test]
+fn the_address_of_the_lowest_element_outside() {
+    let mut machine = Machine::new(16);
+    machine.settings.memory_address = 0x2000;
+    machine.x[1] = 0x2000 + 60;
+    machine.x[2] = 0;
+    machine.set_predicate(0, [1, 2, 3, 6, 9]);
+    machine.expect_refused(0xE022_0020, 7, 0x2042);
+    machine.x[1] = u64::MAX - 1;
+    machine.expect_refused(0xE022_0020, 7, u64::MAX);
+}

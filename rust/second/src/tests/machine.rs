@@ -1,0 +1,119 @@
+//! A whole state for the execution tests, every byte unlike its neighbours.
+
+use crate::execute::{execute_with, Buffers, Mistake, Settings};
+
+/// Settings and buffers of the lengths that the vector length fixes.
+#[derive(Clone, Debug, PartialEq)]
+pub struct Machine {
+    pub settings: Settings,
+    pub x: Vec<u64>,
+    pub z: Vec<u8>,
+    pub p: Vec<u8>,
+    pub za: Vec<u8>,
+    pub memory: Vec<u8>,
+}
+
+/// Bytes that differ from their neighbours in a vector and in a column:
+/// both steps are odd, so neither repeats within 256 of them.
+fn bytes(start: usize, length: usize) -> Vec<u8> {
+    let byte = |at: usize| (start + 151 * at + 29 * (at / 256)) as u8;
+    (0..length).map(byte).collect()
+}
+
+impl Machine {
+    /// Level 3, both switches on, memory of 64 bytes at address 0, no
+    /// active element in any predicate.
+    pub fn new(vector_bytes: usize) -> Machine {
+        Machine {
+            settings: Settings {
+                vector_bytes: vector_bytes as u64,
+                level: 3,
+                streaming: true,
+                za_on: true,
+                memory_address: 0,
+            },
+            x: (0..32)
+                .map(|number| 0xABCD_0123_4567_0000 + number)
+                .collect(),
+            z: bytes(3, 32 * vector_bytes),
+            p: vec![0; 2 * vector_bytes],
+            za: bytes(90, vector_bytes * vector_bytes),
+            memory: bytes(200, 64),
+        }
+    }
+
+    pub fn vector_bytes(&self) -> usize {
+        self.settings.vector_bytes as usize
+    }
+
+    /// Sets the low 32 bits of an index register and fills the others, which
+    /// must not matter.
+    pub fn set_w(&mut self, register: usize, w: u32) {
+        self.x[register] = 0x9876_5432 << 32 | u64::from(w);
+    }
+
+    /// Sets the bits of one predicate register.
+    pub fn set_predicate(&mut self, register: usize, bits: impl IntoIterator<Item = usize>) {
+        let first = register * self.vector_bytes() / 8;
+        for bit in bits {
+            self.p[first + bit / 8] |= 1 << (bit % 8);
+        }
+    }
+
+    /// Sets all bits of one predicate register.
+    pub fn set_all_active(&mut self, register: usize) {
+        self.set_predicate(register, 0..self.vector_bytes());
+    }
+
+    /// The bytes of a vector register.
+    pub fn z(&self, register: usize) -> Vec<u8> {
+        let length = self.vector_bytes();
+        self.z[register * length..][..length].to_vec()
+    }
+
+    /// The bytes of a ZA vector.
+    pub fn za(&self, vector: usize) -> Vec<u8> {
+        let length = self.vector_bytes();
+        self.za[vector * length..][..length].to_vec()
+    }
+
+    pub fn set_z(&mut self, register: usize, bytes: &[u8]) {
+        let length = self.vector_bytes();
+        self.z[register * length..][..length].copy_from_slice(bytes);
+    }
+
+    pub fn set_za(&mut self, vector: usize, bytes: &[u8]) {
+        let length = self.vector_bytes();
+        self.za[vector * length..][..length].copy_from_slice(bytes);
+    }
+
+    /// Executes a word.
+    pub fn run(&mut self, word: u32) -> (u32, u64) {
+        self.run_with(Mistake::None, word)
+    }
+
+    /// Executes a word with a mistake.
+    pub fn run_with(&mut self, mistake: Mistake, word: u32) -> (u32, u64) {
+        let buffers = Buffers {
+            x: &self.x,
+            z: &mut self.z,
+            p: &self.p,
+            za: &mut self.za,
+            memory: &mut self.memory,
+        };
+        execute_with(mistake, &self.settings, word, buffers)
+    }
+
+    /// Executes a word that is answered done and must leave `wanted`.
+    pub fn expect_done(mut self, word: u32, wanted: &Machine) {
+        assert_eq!(self.run(word), (0, 0), "{word:08X}");
+        assert!(self == *wanted, "{word:08X} left another state");
+    }
+
+    /// Executes a word that is refused and must leave everything as it was.
+    pub fn expect_refused(&self, word: u32, answer: u32, address: u64) {
+        let mut after = self.clone();
+        assert_eq!(after.run(word), (answer, address), "{word:08X}");
+        assert!(after == *self, "{word:08X} was refused and wrote");
+    }
+}
