@@ -22,7 +22,8 @@ use Rattle.encoding.specs.declared.operation.TileToMemory.{TileToMemory}
 use Rattle.tiles.specs.Scatter.{scatter}
 use Rattle.tiles.specs.Predicate.{active}
 use Rattle.tiles.specs.Tile.{sliceAt}
-use Rattle.tiles.proofs.ScatterLaws.{length-scatter, scatter-more}
+use Rattle.tiles.proofs.ScatterLaws.{scatter-more}
+use Rattle.moves.proofs.BlockLaws.{Written, written}
 use Rattle.execute.specs.declared.answer.Executed.{Executed}
 use Rattle.execute.specs.declared.answer.Executed.the-variants.{Done, StackMisaligned, OutsideMemory}
 use Rattle.execute.specs.Store.{baseOf, offsetOf, addressAt, inMemory, orElse, least, isSome}
@@ -132,14 +133,6 @@ module _ (p : List ℕ) (pbase m start a lm k : ℕ) where
 -- places that agree
 scatter-at : (at at′ : ℕ → ℕ) (on : ℕ → Bool) (val : ℕ → ℕ) (n : ℕ) (l : List ℕ) → ((k : ℕ) → at k ≡ at′ k) → scatter at on val n l ≡ scatter at′ on val n l
 scatter-at at at′ on val n l h = ap (λ (f : ℕ → ℕ). scatter f on val n l) (fun-ext h)
-
--- the first k bytes are written
-abbrev pub Written : (ℕ → ℕ) → (ℕ → Bool) → (ℕ → ℕ) → List ℕ → ℕ → List ℕ → Type 0
-Written at on val l k d = (length d ≡ length l) × (d ≡ scatter at on val k l)
-
-module _ (at : ℕ → ℕ) (on : ℕ → Bool) (val : ℕ → ℕ) (l : List ℕ) (i : ℕ) where
-  written : {d : List ℕ} → d ≡ scatter at on val i l → Written at on val l i d
-  written q = (ap length q ∙ length-scatter at on val i l, q)
 
 module _ (at : ℕ → ℕ) (on : ℕ → Bool) (val : ℕ → ℕ) (l : List ℕ) (i : ℕ) where
   -- byte i is written

@@ -1,8 +1,6 @@
 // Slice and vector numbers: an index register and an offset, modulo how many there are.
 ghost use mathlib.Core.Path.{_≡_};
-ghost use Prim.Native.Nat.{_+_, _/_, _%_, _^_, _<_, _≤_};
-ghost use Rattle.encoding.specs.Flat.{bytesOf};
-use encoding::ElementSize;
+ghost use Prim.Native.Nat.{_+_, _%_, _^_, _<_, _≤_};
 
 // (W + offset) mod n over whole numbers, W the low 32 bits of x.
 pub(crate) fn selected(x: u64, offset: u8, n: usize) -> usize
@@ -40,17 +38,4 @@ fn remainder(w: u64, n: usize) -> usize
         return (w % 4) as usize;
     }
     (w % (n as u64)) as usize
-}
-
-// How many slices a tile has, which is how many elements a vector has.
-pub(crate) fn slice_count(vector_bytes: usize, size: ElementSize) -> usize
-    ensures { λ r. ⌜ r ≡ «vector_bytes» / bytesOf size ⌝ }
-{
-    match size {
-        ElementSize::Bits8 => vector_bytes,
-        ElementSize::Bits16 => vector_bytes / 2,
-        ElementSize::Bits32 => vector_bytes / 4,
-        ElementSize::Bits64 => vector_bytes / 8,
-        ElementSize::Bits128 => vector_bytes / 16,
-    }
 }

@@ -199,7 +199,7 @@ pub(crate) fn store(
     if fault < n {
         return Executed::OutsideMemory(std::num::wrapping_add_u64(start, fault as u64));
     }
-    let count = select::slice_count(n, size);
+    let count = moves::elements_in(n, size);
     let slice = select::selected(x[operation.rs as usize], operation.imm, count);
     let direction = operation.direction;
     let tile = operation.zat as usize;

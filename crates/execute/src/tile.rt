@@ -5,7 +5,6 @@ ghost use Rattle.encoding.specs.Range.{ToTileInRange, FromTileInRange};
 ghost use Rattle.execute.specs.Effect.{movedToTile, takenFromTile, zeroedInTile};
 ghost use Rattle.execute.specs.Promise.{Sized};
 use crate::select::selected;
-use crate::select::slice_count;
 use encoding::TileToVector;
 use encoding::VectorToTile;
 
@@ -23,7 +22,7 @@ pub(crate) fn move_to_tile(
 {
     let size = operation.size;
     let direction = operation.direction;
-    let n = slice_count(vector_bytes, size);
+    let n = moves::elements_in(vector_bytes, size);
     moves::move_to_slice(
         za,
         z,
@@ -54,7 +53,7 @@ pub(crate) fn take_from_tile(
 {
     let size = operation.size;
     let direction = operation.direction;
-    let n = slice_count(vector_bytes, size);
+    let n = moves::elements_in(vector_bytes, size);
     moves::take_slice(
         za,
         z,

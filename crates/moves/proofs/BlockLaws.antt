@@ -31,7 +31,7 @@ abbrev pub Written : (ℕ → ℕ) → (ℕ → Bool) → (ℕ → ℕ) → List
 Written at on val l k d = (length d ≡ length l) × (d ≡ scatter at on val k l)
 
 module _ (at : ℕ → ℕ) (on : ℕ → Bool) (val : ℕ → ℕ) (l : List ℕ) where
-  written : (k : ℕ) {d : List ℕ} → d ≡ scatter at on val k l → Written at on val l k d
+  pub written : (k : ℕ) {d : List ℕ} → d ≡ scatter at on val k l → Written at on val l k d
   written k q = (ap length q ∙ length-scatter at on val k l, q)
 
   -- no block yet

@@ -36,7 +36,7 @@ fn slice_start(
 }
 
 // How many elements a vector has: shifts, where a division by their bytes would be slow.
-fn elements_in(vector_bytes: usize, size: ElementSize) -> usize
+pub fn elements_in(vector_bytes: usize, size: ElementSize) -> usize
     ensures { λ r. ⌜ r ≡ «vector_bytes» / bytesOf size ⌝ }
 {
     match size {

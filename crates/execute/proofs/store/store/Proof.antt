@@ -77,7 +77,7 @@ selected-requires : tie.Need-selected-requires
 selected-requires c κs =
     let entry = c .before .before .before .before .before .before .before .before .before .before .before .before .before .before .before .before .before in
     let w = whole (entry .args .operation .size) (entry .args .settings .«vector_bytes») (entry .pre .vector) in
-    let n = c .before .before .slice-count .ensures in
+    let n = c .before .before .elements-in .ensures in
     (rw n (w .slices), rw n (w .few), entry .pre .range .offset)
 
 write-active-requires : tie.Need-write-active-requires
@@ -90,7 +90,7 @@ write-active-requires c κs =
     let entry = b .before .before .before .before .before in
     let a = entry .args in
     let r = ready b in (
-      (r .whole .longest, r .whole .elements, rw (b .bytes .ensures .0) (entry .pre .range .tile), rw (b .bytes .ensures .0, ← at-count .slice-count .ensures) (sel .selected .ensures .1)),
+      (r .whole .longest, r .whole .elements, rw (b .bytes .ensures .0) (entry .pre .range .tile), rw (b .bytes .ensures .0, ← at-count .elements-in .ensures) (sel .selected .ensures .1)),
       (
         (r .room, entry .pre .za),
         (λ k w h. passed-inside (a .p .now) (a .operation .pg * (a .settings .«vector_bytes» / 8)) (b .bytes .result) (fault .before .first-address .result) (a .settings .«memory_address») (length (a .memory .now)) k
@@ -109,7 +109,7 @@ returns-3 c =
     let at-stack = at-address .before .before in
     let b = at-stack .before .before .before .before .before in
     let a = b .before .before .before .before .before .args in
-    let slice = sel .selected .ensures .0 ∙ ap (λ (n : ℕ). (getD (a .x .now) (a .operation .rs) 0 % 2 ^ 32 + a .operation .imm) % n) (at-count .slice-count .ensures) in
+    let slice = sel .selected .ensures .0 ∙ ap (λ (n : ℕ). (getD (a .x .now) (a .operation .rs) 0 % 2 ^ 32 + a .operation .imm) % n) (at-count .elements-in .ensures) in
     record {
       answer =
           store-done (a .settings) (a .x .now) (a .p .now) (length (a .memory .now)) (a .operation)

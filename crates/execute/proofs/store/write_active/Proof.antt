@@ -9,7 +9,8 @@ use lib.ListN.{length, getD}
 use Rattle.tiles.specs.Predicate.{active}
 use Rattle.tiles.specs.Tile.{sliceAt}
 use Rattle.tiles.proofs.ScatterLaws.{scatter-none, scatter-end}
-use Rattle.execute.proofs.StoreLaws.{in-memory, Written, written-active, written-inactive}
+use Rattle.moves.proofs.BlockLaws.{Written}
+use Rattle.execute.proofs.StoreLaws.{in-memory, written-active, written-inactive}
 use Rattle.execute.proofs.store.write_active.Statement.{statement}
 use Rattle.execute.proofs.store.write_active.Tie as tie
 

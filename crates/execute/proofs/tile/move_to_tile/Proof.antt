@@ -13,7 +13,7 @@ selected-requires : tie.Need-selected-requires
 selected-requires c κs =
     let entry = c .before .before .before .before .before .before .before .before .before in
     let w = whole (entry .args .operation .size) (entry .args .vector-bytes) (entry .pre .0 .vector) in
-    omega (arith, c .before .before .before .before .slice-count .ensures, w .slices, w .few, entry .pre .1 .offset)
+    omega (arith, c .before .before .before .before .elements-in .ensures, w .slices, w .few, entry .pre .1 .offset)
 
 mul-move-to-slice : tie.Need-mul-move-to-slice
 mul-move-to-slice c =
@@ -30,7 +30,7 @@ mul-move-to-slice-2 c =
 move-to-slice-requires : tie.Need-move-to-slice-requires
 move-to-slice-requires c κs =
     let entry = c .before .before .before .before .before .before .before .before .before .before .before .before in (
-      placed (entry .args .operation .size) (entry .args .vector-bytes) _ _ (entry .pre .0 .vector) (entry .pre .1 .tile) (omega (arith, c .before .before .before .before .before .before .before .slice-count .ensures, c .before .before .selected .ensures .1)),
+      placed (entry .args .operation .size) (entry .args .vector-bytes) _ _ (entry .pre .0 .vector) (entry .pre .1 .tile) (omega (arith, c .before .before .before .before .before .before .before .elements-in .ensures, c .before .before .selected .ensures .1)),
       (
         omega (arith, entry .pre .0 .za),
         omega (arith, entry .pre .0 .z, register-within (entry .args .vector-bytes) (entry .args .operation .zn) 32 (entry .pre .1 .vector)),
@@ -41,7 +41,7 @@ move-to-slice-requires c κs =
 returns : tie.Need-returns
 returns c =
     let a = c .before .before .before .before .before .before .before .before .before .before .before .before .before .before .before .args in
-    c .before .before .move-to-slice .ensures ∙ moved-to-tile (a .vector-bytes) _ _ _ _ (a .operation) (c .before .before .before .before .before .before .before .before .before .before .slice-count .ensures) (c .before .before .before .before .before .selected .ensures .0)
+    c .before .before .move-to-slice .ensures ∙ moved-to-tile (a .vector-bytes) _ _ _ _ (a .operation) (c .before .before .before .before .before .before .before .before .before .before .elements-in .ensures) (c .before .before .before .before .before .selected .ensures .0)
 
 pub move-to-tile-spec : {M : Type 1} → statement M
 move-to-tile-spec =

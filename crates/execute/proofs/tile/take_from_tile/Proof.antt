@@ -13,7 +13,7 @@ selected-requires : tie.Need-selected-requires
 selected-requires c κs =
     let entry = c .before .before .before .before .before .before .before .before .before .before in
     let w = whole (entry .args .operation .size) (entry .args .vector-bytes) (entry .pre .0 .vector) in
-    omega (arith, c .before .before .before .before .before .slice-count .ensures, w .slices, w .few, entry .pre .1 .offset)
+    omega (arith, c .before .before .before .before .before .elements-in .ensures, w .slices, w .few, entry .pre .1 .offset)
 
 mul-take-slice : tie.Need-mul-take-slice
 mul-take-slice c =
@@ -24,7 +24,7 @@ mul-take-slice c =
 take-slice-requires : tie.Need-take-slice-requires
 take-slice-requires c κs =
     let entry = c .before .before .before .before .before .before .before .before .before .before .before .before in (
-      placed (entry .args .operation .size) (entry .args .vector-bytes) _ _ (entry .pre .0 .vector) (entry .pre .1 .tile) (omega (arith, c .before .before .before .before .before .before .before .slice-count .ensures, c .before .selected .ensures .1)),
+      placed (entry .args .operation .size) (entry .args .vector-bytes) _ _ (entry .pre .0 .vector) (entry .pre .1 .tile) (omega (arith, c .before .before .before .before .before .before .before .elements-in .ensures, c .before .selected .ensures .1)),
       (
         omega (arith, entry .pre .0 .za),
         omega (arith, entry .pre .0 .z, register-within (entry .args .vector-bytes) (entry .args .operation .zd) 32 (entry .pre .1 .vector)),
@@ -34,8 +34,8 @@ take-slice-requires c κs =
 returns : tie.Need-returns
 returns c =
     let a = c .before .before .before .before .before .before .before .before .before .before .before .before .before .before .before .before .before .args in (
-      c .before .before .before .before .take-slice .ensures .0 ∙ taken-from-tile (a .vector-bytes) _ _ _ _ (a .operation) (c .before .before .before .before .before .before .before .before .before .before .before .before .slice-count .ensures) (c .before .before .before .before .before .before .selected .ensures .0),
-      c .before .before .before .before .take-slice .ensures .1 ∙ zeroed-in-tile (a .vector-bytes) _ _ [] _ (a .operation) (c .before .before .before .before .before .before .before .before .before .before .before .before .slice-count .ensures) (c .before .before .before .before .before .before .selected .ensures .0),
+      c .before .before .before .before .take-slice .ensures .0 ∙ taken-from-tile (a .vector-bytes) _ _ _ _ (a .operation) (c .before .before .before .before .before .before .before .before .before .before .before .before .elements-in .ensures) (c .before .before .before .before .before .before .selected .ensures .0),
+      c .before .before .before .before .take-slice .ensures .1 ∙ zeroed-in-tile (a .vector-bytes) _ _ [] _ (a .operation) (c .before .before .before .before .before .before .before .before .before .before .before .before .elements-in .ensures) (c .before .before .before .before .before .before .selected .ensures .0),
     )
 
 pub take-from-tile-spec : {M : Type 1} → statement M
