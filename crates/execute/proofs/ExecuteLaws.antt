@@ -1,7 +1,7 @@
 -- Laws of specs/Execute.antt: what a done answer says, and that a refusal changes nothing.
 -- Assumes nothing.
 use Prim.Native.Nat.{ℕ, _+_, _*_, _/_, _^_, _≤_}
-use mathlib.Core.Path.{_≡_, refl, sym, ap, _∙_}
+use mathlib.Core.Path.{_≡_, refl, ap, _∙_}
 use mathlib.Core.Bool.{Bool, true, false, _&&_, and-eq-true-iff}
 use mathlib.Core.List.{List}
 use mathlib.Core.Logic.{_⊎_, inl, inr}
@@ -18,7 +18,7 @@ use Rattle.encoding.specs.declared.operation.Decoded.the-variants as decoded
 use Rattle.execute.specs.declared.answer.Executed.{Executed}
 use Rattle.execute.specs.declared.answer.Executed.the-variants.{Done, BadSettings, BadLengths, Undecodable, StreamingOff, ZaOff, StackMisaligned, OutsideMemory}
 use Rattle.execute.specs.Effect.{State, effectOf}
-use Rattle.execute.specs.Execute.{guard, strideOf, validLengths, operationAnswer, decodedAnswer, answerOf, decodedEffect, ifDone, Outcome, executeOf}
+use Rattle.execute.specs.Execute.{guard, strideOf, validLengths, operationAnswer, decodedAnswer, answerOf, decodedEffect, ifDone, executeOf}
 
 -- ---- guard
 

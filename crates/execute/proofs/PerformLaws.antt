@@ -21,7 +21,7 @@ use Rattle.execute.specs.declared.answer.Executed.the-variants.{Done, Ba
 use Rattle.execute.specs.declared.check.Buffers.the-variants as check
 use Rattle.execute.specs.Answer.{executedNumber, executedAddress}
 use Rattle.execute.specs.Effect.{State, effectOf}
-use Rattle.execute.specs.Execute.{guard, strideOf, validLengths, operationAnswer, decodedAnswer, answerOf, decodedEffect, ifDone, Outcome, executeOf}
+use Rattle.execute.specs.Execute.{guard, strideOf, validLengths, operationAnswer, decodedAnswer, answerOf, decodedEffect, ifDone, executeOf}
 use Rattle.execute.specs.Promise.{Executes, pickBuffers, checkOf, Performs, Ready, Sized, StoreReady, Stores}
 use Rattle.execute.proofs.CheckLaws.{vector-valid}
 use Rattle.execute.proofs.ExecuteLaws.{Refusal, refusal-settings, refusal-lengths, refusal-undecodable, refusal-streaming, refusal-za, refused-stays, answered, lengths-facts}

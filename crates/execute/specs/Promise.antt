@@ -16,7 +16,7 @@ use Rattle.execute.specs.declared.check.Buffers.{Buffers}
 use Rattle.execute.specs.declared.check.Buffers.the-variants.{Valid, BadSettings, BadLengths}
 use Rattle.execute.specs.Answer.{executedNumber, executedAddress}
 use Rattle.execute.specs.Effect.{State, stored, effectOf}
-use Rattle.execute.specs.Execute.{validLengths, strideOf, storeAnswer, operationAnswer, ifDone, Outcome, executeOf}
+use Rattle.execute.specs.Execute.{validLengths, strideOf, storeAnswer, operationAnswer, ifDone, executeOf}
 
 -- execution: the answer with its number and address, and every byte of the three buffers, whichever answer
 pub record Executes (s : Settings) (w : ℕ) (x p : List ℕ) (t : State) (r : Executed) (t′ : State) : Type 0 where

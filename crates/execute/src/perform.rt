@@ -1,6 +1,5 @@
 // Performing a word on buffers whose lengths were checked: answers 3 to 7 of document 01 §6 in order,
 // then the operation.
-ghost use mathlib.Core.Path.{_≡_};
 ghost use Rattle.encoding.specs.Range.{InRange};
 ghost use Rattle.execute.specs.Promise.{Executes, Performs, Ready};
 use crate::answer::Executed;

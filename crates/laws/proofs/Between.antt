@@ -2,7 +2,7 @@
 -- Assumes nothing.
 use Prim.Native.Nat.{ℕ}
 use mathlib.Core.Path.{_≡_, sym, ap, _∙_, subst}
-use mathlib.Core.List.{List, _∷_, _++_}
+use mathlib.Core.List.{List, _∷_}
 use Rattle.settings.specs.declared.Settings.{Settings}
 use Rattle.encoding.specs.declared.operation.Operation.{Operation}
 use Rattle.encoding.specs.declared.operation.Operation.the-variants.{MovaToTile, MovazFromTile, MovaFromArray, MovazFromArray, St1}

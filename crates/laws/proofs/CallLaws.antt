@@ -1,23 +1,21 @@
 -- Laws of specs/Calls.antt: what a done call writes, what a refused one leaves, and lists of calls taken apart.
 -- Assumes nothing.
-use Prim.Native.Nat.{ℕ, _+_, _*_, _/_, _<_, _≤_}
-use mathlib.Core.Path.{_≡_, refl, sym, ap, _∙_, subst}
-use mathlib.Core.List.{List, [], _∷_, _++_, append-assoc}
+use Prim.Native.Nat.{ℕ}
+use mathlib.Core.Path.{_≡_, refl, sym, ap, _∙_}
+use mathlib.Core.List.{List, [], _∷_, _++_}
 use mathlib.Core.Option.{Option, none, some}
-use mathlib.Core.Logic.{_⊎_, inl, inr}
 use native.Mathlib.Omega.{arith}
 use lib.ListN.{length}
 use Rattle.settings.specs.declared.Settings.{Settings}
 use Rattle.encoding.specs.Codec.{decodeOf}
 use Rattle.encoding.specs.declared.operation.Operation.{Operation}
 use Rattle.encoding.specs.declared.operation.Operation.the-variants.{MovaToTile, MovazFromTile, MovaFromArray, MovazFromArray, St1}
-use Rattle.encoding.specs.declared.operation.Decoded.{Decoded}
 use Rattle.encoding.specs.declared.operation.Decoded.the-variants as decoded
 use Rattle.tiles.proofs.ScatterLaws.{length-scatter}
 use Rattle.execute.specs.declared.answer.Executed.{Executed}
 use Rattle.execute.specs.declared.answer.Executed.the-variants.{Done, BadSettings, BadLengths, Undecodable, StreamingOff, ZaOff, StackMisaligned, OutsideMemory}
 use Rattle.execute.specs.Effect.{State, movedToTile, zeroedInTile, zeroedInArray, effectOf}
-use Rattle.execute.specs.Execute.{strideOf, executeOf}
+use Rattle.execute.specs.Execute.{strideOf}
 use Rattle.execute.proofs.ExecuteLaws.{Refusal, Does, Ends, does, stays, ends}
 use Rattle.laws.specs.Calls.{Call, stateWith, outcome, zaAfter, run, Move, moveOf, decodedMove, ifDoneMove, moved, withMove, moves}
 

@@ -3,7 +3,7 @@
 -- Assumes nothing.
 use Prim.Native.Nat.{ℕ, zero, suc, _+_, _*_, _/_, _<_, _≤_}
 use mathlib.Core.Path.{_≡_, refl, sym, ap, _∙_, subst}
-use mathlib.Core.Bool.{Bool, true, false}
+use mathlib.Core.Bool.{Bool, true}
 use mathlib.Core.List.{List, [], _∷_, _++_, map, append-assoc}
 use mathlib.Core.Option.{some}
 use mathlib.Core.Logic.{_⊎_, inl, inr}
@@ -17,17 +17,17 @@ use Rattle.encoding.specs.declared.operation.ElementSize.{ElementSize}
 use Rattle.encoding.specs.declared.operation.Direction.{Direction}
 use Rattle.encoding.specs.declared.operation.Direction.the-variants.{Horizontal, Vertical}
 use Rattle.tiles.specs.Scatter.{pick, all, zeros}
-use Rattle.tiles.specs.Predicate.{bit, active}
+use Rattle.tiles.specs.Predicate.{bit}
 use Rattle.tiles.specs.Tile.{flip, byteAt, byteOf, Outside}
 use Rattle.tiles.proofs.TileLaws.{byteAt-within, slices-cross}
 use Rattle.tiles.proofs.SliceLaws.{active-element, written-at, taken-at}
 use Rattle.execute.specs.Execute.{strideOf}
 use Rattle.execute.proofs.LengthLaws.{whole}
-use Rattle.laws.specs.Calls.{Call, outcome, zaAfter, run, Move, into, out, moved, vectorOf, predicateOf}
-use Rattle.laws.specs.Crossing.{EachOnce, slicesOf, Crosses, Once, Crossed, CrossingLaw}
-use Rattle.laws.proofs.CallLaws.{run-append, run-long, quiet, Parts, parts, cons-same, nil-cons}
-use Rattle.laws.proofs.MoveFacts.{Into, Out, into-call, out-call}
-use Rattle.laws.proofs.PhaseLaws.{Trace, ended, rested, went, trace, Writes, unnamed-stays, outside-stays, Listed, listed, Single, single}
+use Rattle.laws.specs.Calls.{Call, outcome, run, Move, into, out, moved, vectorOf, predicateOf}
+use Rattle.laws.specs.Crossing.{EachOnce, slicesOf, Once, Crossed, CrossingLaw}
+use Rattle.laws.proofs.CallLaws.{run-append, run-long, quiet, Parts, parts, cons-same}
+use Rattle.laws.proofs.MoveFacts.{into-call, out-call}
+use Rattle.laws.proofs.PhaseLaws.{Trace, ended, rested, went, trace, Writes, outside-stays, listed, Single, single}
 
 -- ---- lists
 

@@ -2,14 +2,14 @@
 -- Assumes nothing.
 use Prim.Native.Nat.{ℕ, zero, suc, _+_, _*_, _/_, _%_, _^_, _<_, _≤_}
 use mathlib.Core.Path.{_≡_, refl, sym, ap, _∙_, subst}
-use mathlib.Core.Bool.{Bool, true, false}
+use mathlib.Core.Bool.{true, false}
 use mathlib.Core.List.{List, [], _∷_, _++_, map, append-nil}
-use mathlib.Core.Option.{Option, none, some}
+use mathlib.Core.Option.{none, some}
 use mathlib.Core.Logic.{_⊎_, inl, inr}
 use native.Mathlib.Nat.{add-mod-right, mod-eq-of-lt}
 use native.Mathlib.Omega.{arith}
 use lib.Dec.{eqb}
-use lib.ListN.{length, getD, set, replicate, length-set, length-replicate}
+use lib.ListN.{length, getD, set, replicate, length-set}
 use lib.Seq.{getD-set-same}
 use borrow.Author.Tests.{eq-eqb, le-leb, eqb-true, eqb-false}
 use Rattle.settings.specs.Settings.{isVectorLength, validSettings, maxLevel}
@@ -21,7 +21,6 @@ use Rattle.encoding.specs.declared.operation.ElementSize.{ElementSize}
 use Rattle.encoding.specs.declared.operation.ElementSize.the-variants.{Bits8, Bits16, Bits32, Bits64, Bits128}
 use Rattle.encoding.specs.declared.operation.Direction.{Direction}
 use Rattle.encoding.specs.declared.operation.Operation.{Operation}
-use Rattle.encoding.specs.declared.operation.Operation.the-variants.{MovaToTile, MovazFromTile}
 use Rattle.encoding.specs.declared.operation.Decoded.the-variants as decoded
 use Rattle.encoding.specs.declared.operation.Encoded.{Encoded}
 use Rattle.encoding.specs.declared.operation.Encoded.the-variants.{Word}
@@ -32,11 +31,11 @@ use Rattle.tiles.specs.Tile.{flip}
 use Rattle.execute.specs.declared.answer.Executed.{Executed}
 use Rattle.execute.specs.declared.answer.Executed.the-variants.{Done}
 use Rattle.execute.specs.Effect.{selected}
-use Rattle.execute.specs.Execute.{strideOf, validLengths, operationAnswer, answerOf, executeOf}
+use Rattle.execute.specs.Execute.{validLengths, operationAnswer}
 use Rattle.execute.proofs.LengthLaws.{whole}
 use Rattle.execute.proofs.ExecuteLaws.{done-when}
-use Rattle.laws.specs.Calls.{Call, stateWith, outcome, zaAfter, run, Move, into, out, moveOf, decodedMove, ifDoneMove, moved, withMove, moves}
-use Rattle.laws.specs.Crossing.{times, EachOnce, slicesOf, Crosses}
+use Rattle.laws.specs.Calls.{Call, stateWith, zaAfter, run, Move, into, out, moveOf, decodedMove, ifDoneMove, moved, withMove, moves}
+use Rattle.laws.specs.Crossing.{times, slicesOf}
 use Rattle.laws.specs.Exhibit.{inward, outward, wordFor, callOn, crossingCalls, Below, ListsExist, downFrom, OrdersExist, RefusedMayStand}
 use Rattle.laws.proofs.CallLaws.{CallEnds, moves-by, rests, call-ends, none-some, call-long, run-long}
 use Rattle.laws.proofs.PhaseLaws.{by-test, times-here, times-past}

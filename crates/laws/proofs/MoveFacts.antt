@@ -1,7 +1,7 @@
 -- What a done call that moves into a tile or out of it says: the lengths and ranges that execution checked, and what it wrote.
 -- Assumes nothing.
-use Prim.Native.Nat.{ℕ, suc, _+_, _*_, _/_, _%_, _^_, _<_, _≤_}
-use mathlib.Core.Path.{_≡_, refl, sym, ap, _∙_, subst}
+use Prim.Native.Nat.{ℕ, suc, _+_, _*_, _/_, _%_, _<_, _≤_}
+use mathlib.Core.Path.{_≡_, sym, ap, subst}
 use mathlib.Core.List.{List}
 use mathlib.Core.Bool.{true}
 use mathlib.Core.Option.{some}
@@ -11,20 +11,18 @@ use lib.ListN.{length, getD}
 use Rattle.settings.specs.Settings.{isVectorLength}
 use Rattle.settings.specs.declared.Settings.{Settings}
 use Rattle.encoding.specs.Flat.{bytesOf}
-use Rattle.encoding.specs.Codec.{decodeOf}
 use Rattle.encoding.specs.declared.operation.ElementSize.{ElementSize}
 use Rattle.encoding.specs.declared.operation.Direction.{Direction}
 use Rattle.encoding.specs.declared.operation.Operation.{Operation}
 use Rattle.encoding.specs.declared.operation.Operation.the-variants.{MovaToTile, MovazFromTile, MovaFromArray, MovazFromArray, St1}
-use Rattle.encoding.specs.declared.operation.Decoded.{Decoded}
 use Rattle.encoding.proofs.RangeLaws.{decoded-in-range}
 use Rattle.tiles.specs.Scatter.{scatter, all, zeros, from}
 use Rattle.tiles.specs.Predicate.{active}
 use Rattle.tiles.specs.Tile.{sliceAt}
-use Rattle.execute.specs.Effect.{State, selected, movedToTile, takenFromTile, zeroedInTile}
+use Rattle.execute.specs.Effect.{State, movedToTile, takenFromTile, zeroedInTile}
 use Rattle.execute.specs.Execute.{strideOf}
 use Rattle.execute.proofs.LengthLaws.{whole}
-use Rattle.laws.specs.Calls.{Call, outcome, zaAfter, Move, into, out, other, moveOf, moved, vectorIn, predicateIn, vectorOf, predicateOf}
+use Rattle.laws.specs.Calls.{Call, outcome, zaAfter, Move, into, out, other, moveOf, moved, vectorOf, predicateOf}
 use Rattle.laws.proofs.CallLaws.{DoesCall, has-move}
 
 module _ (s : Settings) (c : Call) (za : List ℕ) where

@@ -4,11 +4,8 @@
 use Prim.Native.Nat.{ℕ}
 use mathlib.Core.Path.{_≡_}
 use mathlib.Core.List.{List, _∷_, _++_}
-use mathlib.Core.Logic.{_⊎_}
 use Rattle.settings.specs.declared.Settings.{Settings}
 use Rattle.encoding.specs.Codec.{decodeOf}
-use Rattle.encoding.specs.declared.operation.ArrayToVectors.{ArrayToVectors}
-use Rattle.encoding.specs.declared.operation.TileToMemory.{TileToMemory}
 use Rattle.encoding.specs.declared.operation.Operation.{Operation}
 use Rattle.encoding.specs.declared.operation.Operation.the-variants.{MovaToTile, MovazFromTile, MovaFromArray, MovazFromArray, St1}
 use Rattle.encoding.specs.declared.operation.Decoded.the-variants.{Done}

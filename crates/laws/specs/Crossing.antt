@@ -1,9 +1,9 @@
 -- The crossing law: what went into a tile as rows comes out as columns. Renders demand 3 as 01 §9 explains it.
 -- To believe: `Crosses`, which lists are meant, and `Crossed`, what is claimed of them.
 -- Assumes nothing.
-use Prim.Native.Nat.{ℕ, zero, suc, _+_, _*_, _/_, _<_}
+use Prim.Native.Nat.{ℕ, suc, _+_, _*_, _/_, _<_}
 use mathlib.Core.Path.{_≡_}
-use mathlib.Core.Bool.{Bool, cond}
+use mathlib.Core.Bool.{cond}
 use mathlib.Core.List.{List, [], _∷_, _++_, map}
 use mathlib.Core.Option.{some}
 use lib.Dec.{eqb}

@@ -1,14 +1,14 @@
 -- Each theorem of specs/Claims.antt.
 -- Assumes nothing.
-use Prim.Native.Nat.{ℕ, zero, suc, _+_, _*_, _/_, _<_, _≤_}
-use mathlib.Core.Path.{_≡_, refl, sym, ap, _∙_}
+use Prim.Native.Nat.{ℕ, zero, suc, _+_, _*_, _/_, _<_}
+use mathlib.Core.Path.{_≡_, refl, sym, _∙_}
 use native.Mathlib.Nat.{mul-div-cancel-left}
 use native.Mathlib.Omega.{arith}
 use lib.Arith.{digits-lt}
 use lib.ListN.{getD}
 use Rattle.encoding.specs.declared.operation.Direction.the-variants.{Horizontal}
 use Rattle.tiles.specs.Group.{groupOf}
-use Rattle.tiles.specs.Claims.{SlicesCross, BytesDiffer, BytesWithin, GroupDiffers, GroupsDiffer}
+use Rattle.tiles.specs.Claims.{SlicesCross, BytesDiffer, BytesWithin, GroupsDiffer}
 use Rattle.tiles.proofs.TileLaws.{digits-same, byteAt-within, byteAt-same}
 use Rattle.tiles.proofs.TileLaws as laws
 

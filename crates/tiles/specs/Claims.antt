@@ -1,10 +1,9 @@
 -- The theorems about where bytes lie, as statements; proofs/Claims.antt proves each, once for any m that divides B.
 -- S is how far apart vectors start, B their length, n = B / m the slices of a tile.
 -- Assumes nothing.
-use Prim.Native.Nat.{ℕ, _+_, _*_, _/_, _%_, _<_, _≤_}
+use Prim.Native.Nat.{ℕ, _*_, _/_, _<_, _≤_}
 use mathlib.Core.Path.{_≡_}
 use lib.ListN.{getD}
-use Rattle.encoding.specs.declared.operation.Direction.{Direction}
 use Rattle.encoding.specs.declared.operation.Direction.the-variants.{Horizontal, Vertical}
 use Rattle.tiles.specs.Tile.{byteAt, byteOf}
 use Rattle.tiles.specs.Group.{groupOf}

@@ -1,6 +1,6 @@
 -- `execute::take_from_array` meets its contract: the group is copied to the registers, then set to zero.
 -- Assumes nothing.
-use mathlib.Core.Path.{_≡_, _∙_}
+use mathlib.Core.Path.{_∙_}
 use mathlib.Core.List.{[]}
 use native.Mathlib.Omega.{arith}
 use Rattle.execute.proofs.MoveLaws.{register-within, registers-within, groups, group-within, taken-from-array, zeroed-in-array}
