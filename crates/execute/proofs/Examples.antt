@@ -30,7 +30,7 @@ byte-1 B s k = rw (mod-one, div-one) (omega arith)
 
 example-1 : Example1
 unfolding table rowOfWord decodeOf isVectorLength scatter active byteOf sliceAt groupAt least movedToTile takenFromTile zeroedInTile takenFromArray zeroedInArray stored storeAnswer answerOf executeOf
-example-1 = record { means = refl; row = row-1; bytes = byte-1; moves = refl }
+example-1 = record { means = refl; row = λ S B x p. row-1 B x; bytes = byte-1; moves = refl }
 
 byte-2 : (e i : ℕ) → byteOf 32 (bytesOf Bits32) 2 Vertical 0 e i ≡ (4 * e + 2) * 32 + i
 unfolding byteOf
@@ -49,7 +49,7 @@ slice-4 x = mod-one (getD x 12 0 % 2 ^ 32 + 0)
 
 example-4 : Example4
 unfolding table rowOfWord decodeOf isVectorLength scatter active byteOf sliceAt groupAt least movedToTile takenFromTile zeroedInTile takenFromArray zeroedInArray stored storeAnswer answerOf executeOf
-example-4 = record { means = refl; slices = refl; slice = slice-4; moves = refl }
+example-4 = record { means = refl; slices = refl; slice = λ S x p. slice-4 x; moves = λ w. rw (mod-one (w % 2 ^ 32 + 0)) refl }
 
 example-5 : Example5
 unfolding table rowOfWord decodeOf isVectorLength scatter active byteOf sliceAt groupAt least movedToTile takenFromTile zeroedInTile takenFromArray zeroedInArray stored storeAnswer answerOf executeOf
@@ -69,11 +69,11 @@ example-8 = record { means = refl; moves = refl; odd = refl }
 
 example-9 : Example9
 unfolding table rowOfWord decodeOf isVectorLength scatter active byteOf sliceAt groupAt least movedToTile takenFromTile zeroedInTile takenFromArray zeroedInArray stored storeAnswer answerOf executeOf
-example-9 = record { means = refl; active = refl; none = refl }
+example-9 = record { means = refl; active = refl; none = refl; aligned = refl }
 
 example-10 : Example10
 unfolding table rowOfWord decodeOf isVectorLength scatter active byteOf sliceAt groupAt least movedToTile takenFromTile zeroedInTile takenFromArray zeroedInArray stored storeAnswer answerOf executeOf
-example-10 = record { means = refl; all = refl; some = refl }
+example-10 = record { means = refl; all = refl; some = refl; later = refl }
 
 pub examples-hold : ExamplesHold
 examples-hold =

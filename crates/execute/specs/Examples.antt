@@ -14,12 +14,11 @@ use Rattle.encoding.specs.declared.operation.Direction.the-variants.{Horizontal
 use Rattle.encoding.specs.declared.operation.RegisterCount.the-variants.{Two, Four}
 use Rattle.encoding.specs.declared.operation.Operation.the-variants.{MovaToTile, MovazFromTile, MovaFromArray, MovazFromArray, St1}
 use Rattle.encoding.specs.declared.operation.Decoded.the-variants as decoded
-use Rattle.execute.specs.declared.answer.Executed.{Executed}
-use Rattle.execute.specs.declared.answer.Executed.the-variants.{Done, Undecodable, StackMisaligned, OutsideMemory}
 use Rattle.tiles.specs.Scatter.{pick}
 use Rattle.tiles.specs.Tile.{byteOf, sliceAt}
 use Rattle.tiles.specs.Group.{groupOf}
-use Rattle.execute.specs.Effect.{State, selected}
+use Rattle.execute.specs.Answer.{executedNumber, executedAddress}
+use Rattle.execute.specs.Effect.{State, selected, sliceIn}
 use Rattle.execute.specs.Execute.{Outcome, executeOf}
 
 -- ---- buffers
@@ -53,7 +52,7 @@ memoryOf n = bytesFrom 200 n
 abbrev pub stateAt : ℕ → ℕ → State
 stateAt B n = record { z = zAt B; za = zaAt B; memory = memoryOf n }
 
--- X with one register set, and with two
+-- X with one register set
 abbrev pub xWith : ℕ → ℕ → List ℕ
 xWith r v = set (bytesFrom 50 32) r v
 
@@ -64,32 +63,41 @@ ones B = replicate (16 * (B / 8)) 255
 abbrev pub predicate0 : ℕ → List ℕ → List ℕ
 predicate0 B r = r ++ replicate (15 * (B / 8)) 255
 
--- a word executed at a vector length, with memory of n bytes at address 0
-abbrev pub executed : ℕ → ℕ → ℕ → List ℕ → List ℕ → Outcome
-executed B w n x p = executeOf (settingsAt B 0) w x p (stateAt B n)
+-- what a host sees of an execution: the number and the address of its answer, and the buffers
+pub record Seen : Type 0 where
+  pub number : ℕ
+  pub address : ℕ
+  pub state : State
 
-abbrev pub executedAt : ℕ → ℕ → Outcome
+abbrev pub seen : Outcome → Seen
+seen o = record { number = executedNumber (o .answer); address = executedAddress (o .answer); state = o .state }
+
+-- a word executed at a vector length, with memory of n bytes at address 0
+abbrev pub executed : ℕ → ℕ → ℕ → List ℕ → List ℕ → Seen
+executed B w n x p = seen (executeOf (settingsAt B 0) w x p (stateAt B n))
+
+abbrev pub executedAt : ℕ → ℕ → Seen
 executedAt level w =
-    executeOf (record { «vector_bytes» = 16; level = level; streaming = true; za = true; «memory_address» = 0 }) w (bytesFrom 50 32) (ones 16) (stateAt 16 8)
+    seen (executeOf (record { «vector_bytes» = 16; level = level; streaming = true; za = true; «memory_address» = 0 }) w (bytesFrom 50 32) (ones 16) (stateAt 16 8))
 
 -- a buffer of n vectors of B bytes, given by vector
 abbrev pub vectors : ℕ → ℕ → (ℕ → List ℕ) → List ℕ
 vectors B zero f = []
 vectors B (suc n) f = vectors B n f ++ f n
 
--- an outcome: done with these Z, ZA and memory; refused with nothing changed
-abbrev pub doneWith : List ℕ → List ℕ → List ℕ → Outcome
-doneWith z za memory = record { answer = Done; state = record { z = z; za = za; memory = memory } }
+-- 0, with these Z, ZA and memory; refused by a number with an address, nothing changed
+abbrev pub doneWith : List ℕ → List ℕ → List ℕ → Seen
+doneWith z za memory = record { number = 0; address = 0; state = record { z = z; za = za; memory = memory } }
 
-abbrev pub refusedWith : ℕ → ℕ → Executed → Outcome
-refusedWith B n a = record { answer = a; state = stateAt B n }
+abbrev pub refusedWith : ℕ → ℕ → ℕ → ℕ → Seen
+refusedWith B n number address = record { number = number; address = address; state = stateAt B n }
 
 -- ---- the examples
 
 -- C0000000: byte tile, row (W12) mod B, P0, Z0
 pub record Example1 : Type 0 where
   pub means : decodeOf 0xC0000000 1 ≡ decoded.Done (MovaToTile (record { size = Bits8; direction = Horizontal; rs = 12; pg = 0; zn = 0; zad = 0; off = 0 }))
-  pub row : (B : ℕ) (x : List ℕ) → selected x 12 0 (B / bytesOf Bits8) ≡ getD x 12 0 % 2 ^ 32 % B
+  pub row : (S B : ℕ) (x p : List ℕ) → sliceIn S B x p (record { size = Bits8; direction = Horizontal; rs = 12; pg = 0; zn = 0; zad = 0; off = 0 }) ≡ getD x 12 0 % 2 ^ 32 % B
   pub bytes : (B s k : ℕ) → sliceAt B (bytesOf Bits8) 0 Horizontal s k ≡ s * B + k
   -- B 16, W12 = 35, so row 3, under alternating bits
   pub moves : executed 16 0xC0000000 8 (xWith 12 35) (predicate0 16 (0x55 ∷ 0x55 ∷ [])) ≡
@@ -105,19 +113,19 @@ pub record Example2 : Type 0 where
 
 -- C0000010 and C0410000: answer 3 at every level
 pub record Example3 : Type 0 where
-  pub first : (map (λ l. executedAt l 0xC0000010) (0 ∷ 1 ∷ 2 ∷ 3 ∷ [])) ≡ replicate 4 (refusedWith 16 8 Undecodable)
-  pub second : (map (λ l. executedAt l 0xC0410000) (0 ∷ 1 ∷ 2 ∷ 3 ∷ [])) ≡ replicate 4 (refusedWith 16 8 Undecodable)
+  pub first : (map (λ l. executedAt l 0xC0000010) (0 ∷ 1 ∷ 2 ∷ 3 ∷ [])) ≡ replicate 4 (refusedWith 16 8 3 0)
+  pub second : (map (λ l. executedAt l 0xC0410000) (0 ∷ 1 ∷ 2 ∷ 3 ∷ [])) ≡ replicate 4 (refusedWith 16 8 3 0)
 
 -- C0C1000F, B 16: n = 1; vector 15 whatever W12 holds
 pub record Example4 : Type 0 where
   pub means : decodeOf 0xC0C1000F 1 ≡ decoded.Done (MovaToTile (record { size = Bits128; direction = Horizontal; rs = 12; pg = 0; zn = 0; zad = 15; off = 0 }))
   pub slices : 16 / bytesOf Bits128 ≡ 1
-  pub slice : (x : List ℕ) → selected x 12 0 (16 / bytesOf Bits128) ≡ 0
-  pub moves : executed 16 0xC0C1000F 8 (xWith 12 123456789) (ones 16) ≡ doneWith (zAt 16) (take 240 (zaAt 16) ++ vectorIn (zAt 16) 16 0) (memoryOf 8)
+  pub slice : (S : ℕ) (x p : List ℕ) → sliceIn S 16 x p (record { size = Bits128; direction = Horizontal; rs = 12; pg = 0; zn = 0; zad = 15; off = 0 }) ≡ 0
+  pub moves : (w : ℕ) → executed 16 0xC0C1000F 8 (xWith 12 w) (ones 16) ≡ doneWith (zAt 16) (take 240 (zaAt 16) ++ vectorIn (zAt 16) 16 0) (memoryOf 8)
 
 -- C0020200: level 2 gives 3; level 3 decodes
 pub record Example5 : Type 0 where
-  pub low : executedAt 2 0xC0020200 ≡ refusedWith 16 8 Undecodable
+  pub low : executedAt 2 0xC0020200 ≡ refusedWith 16 8 3 0
   pub high : decodeOf 0xC0020200 3 ≡ decoded.Done (MovazFromTile (record { size = Bits8; direction = Horizontal; rs = 12; zan = 0; off = 0; zd = 0 }))
 
 -- C0C2E3BF: m = 8, vertical, W15, tile 6, offset 1, Z31; B 64, W15 = 4,294,967,295: slice 0
@@ -141,22 +149,27 @@ pub record Example8 : Type 0 where
   pub moves : executed 16 0xC0060A6A 8 (xWith 8 6) (ones 16) ≡
       doneWith (take 160 (zAt 16) ++ (vectorIn (zaAt 16) 16 1 ++ (vectorIn (zaAt 16) 16 9 ++ drop 192 (zAt 16))))
       (take 16 (zaAt 16) ++ (replicate 16 0 ++ (take 112 (drop 32 (zaAt 16)) ++ (replicate 16 0 ++ drop 160 (zaAt 16))))) (memoryOf 8)
-  pub odd : executedAt 3 0xC0060A01 ≡ refusedWith 16 8 Undecodable
+  pub odd : executedAt 3 0xC0060A01 ≡ refusedWith 16 8 3 0
 
 -- E03F03E0, stack pointer 1008 hex, an active element: 6. None active: done, nothing written
 pub record Example9 : Type 0 where
   pub means : decodeOf 0xE03F03E0 1 ≡ decoded.Done (St1 (record { size = Bits8; direction = Horizontal; rs = 12; pg = 0; rn = 31; rm = 31; zat = 0; imm = 0 }))
   -- whichever of the sixteen elements is the active one
-  pub active : map (λ (e : ℕ). executed 16 0xE03F03E0 8 (xWith 31 0x1008) (predicate0 16 (2 ^ e % 256 ∷ 2 ^ e / 256 ∷ []))) (0 ∷ 1 ∷ 2 ∷ 3 ∷ 4 ∷ 5 ∷ 6 ∷ 7 ∷ 8 ∷ 9 ∷ 10 ∷ 11 ∷ 12 ∷ 13 ∷ 14 ∷ 15 ∷ []) ≡ replicate 16 (refusedWith 16 8 StackMisaligned)
+  pub active : map (λ (e : ℕ). executed 16 0xE03F03E0 8 (xWith 31 0x1008) (predicate0 16 (2 ^ e % 256 ∷ 2 ^ e / 256 ∷ []))) (0 ∷ 1 ∷ 2 ∷ 3 ∷ 4 ∷ 5 ∷ 6 ∷ 7 ∷ 8 ∷ 9 ∷ 10 ∷ 11 ∷ 12 ∷ 13 ∷ 14 ∷ 15 ∷ []) ≡ replicate 16 (refusedWith 16 8 6 0)
   pub none : executed 16 0xE03F03E0 8 (xWith 31 0x1008) (predicate0 16 (0 ∷ 0 ∷ [])) ≡ doneWith (zAt 16) (zaAt 16) (memoryOf 8)
+  -- beyond 01's sentence: the stack pointer 10 hex is the base and register 31 as an offset is zero, so bytes 16 to 31 are written
+  pub aligned : executed 16 0xE03F03E0 64 (set (xWith 12 5) 31 16) (ones 16) ≡
+      doneWith (zAt 16) (zaAt 16) (take 16 (memoryOf 64) ++ (vectorIn (zaAt 16) 16 5 ++ drop 32 (memoryOf 64)))
 
 -- E0220020, B 16, X1 = 2^64 - 8, X2 = 4, memory address 0, length 64. All active: 7, address FFFFFFFFFFFFFFFC. Elements 4 to 15
 -- only: done, bytes 0 to 11 written; with W12 = 5 these are of row 5
 pub record Example10 : Type 0 where
   pub means : decodeOf 0xE0220020 1 ≡ decoded.Done (St1 (record { size = Bits8; direction = Horizontal; rs = 12; pg = 0; rn = 1; rm = 2; zat = 0; imm = 0 }))
-  pub all : executed 16 0xE0220020 64 (set (set (xWith 12 5) 1 (2 ^ 64 - 8)) 2 4) (ones 16) ≡ refusedWith 16 64 (OutsideMemory 0xFFFFFFFFFFFFFFFC)
+  pub all : executed 16 0xE0220020 64 (set (set (xWith 12 5) 1 (2 ^ 64 - 8)) 2 4) (ones 16) ≡ refusedWith 16 64 7 0xFFFFFFFFFFFFFFFC
   pub some : executed 16 0xE0220020 64 (set (set (xWith 12 5) 1 (2 ^ 64 - 8)) 2 4) (predicate0 16 (0xF0 ∷ 0xFF ∷ [])) ≡
       doneWith (zAt 16) (zaAt 16) (drop 4 (vectorIn (zaAt 16) 16 5) ++ drop 12 (memoryOf 64))
+  -- beyond 01's sentence: where only a later element faults, nothing is written either
+  pub later : executed 16 0xE0220020 64 (set (set (xWith 12 5) 1 56) 2 0) (ones 16) ≡ refusedWith 16 64 7 64
 
 pub record ExamplesHold : Type 0 where
   pub example1 : Example1

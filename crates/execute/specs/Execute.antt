@@ -45,7 +45,7 @@ module _ (s : Settings) (x p : List ℕ) (lm : ℕ) where
   abbrev pub storeActive : TileToMemory → ℕ → Bool
   storeActive o = active p (o .pg * (strideOf s / 8)) (bytesOf (o .size))
 
-  -- the first byte of an active element that is not in memory
+  -- byte k is of an active element and not in memory
   abbrev pub faulting : TileToMemory → ℕ → Bool
   faulting o k =
       storeActive o k && not (inMemory (s .«memory_address») lm (addressAt (baseOf x (o .rn)) (offsetOf x (o .rm)) (bytesOf (o .size)) k))
@@ -82,7 +82,7 @@ answerOf s w x p lz lza lm =
 
 -- ---- the buffers
 
--- only a done word has an effect
+-- what a decoded word would do; another does nothing
 abbrev pub decodedEffect : Settings → List ℕ → List ℕ → Decoded → State → State
 decodedEffect s x p (decoded.Done o) t = effectOf (strideOf s) (s .«vector_bytes») x p (s .«memory_address») o t
 decodedEffect s x p decoded.BadLevel t = t

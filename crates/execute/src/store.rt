@@ -99,7 +99,7 @@ fn is_in_memory(a: u64, n: usize, address: u64) -> bool
 }
 
 // The first byte of an active element that is not in memory, n if there is none. Byte k goes to
-// address start + k, and memory has memory_bytes from memory_address on.
+// address start + k modulo 2^64, and memory has memory_bytes from memory_address on.
 fn first_fault(
     p: &[u8],
     pbase: usize,
@@ -144,7 +144,8 @@ fn slice_byte(
     }
 }
 
-// Copies the active bytes of a slice to memory: byte k to the index of address start + k.
+// Copies the active bytes of a slice to memory: byte k to the index of address start + k
+// modulo 2^64.
 fn write_active(
     memory: &mut [u8],
     memory_address: u64,

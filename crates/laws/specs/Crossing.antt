@@ -34,7 +34,7 @@ slicesOf s size = s .«vector_bytes» / bytesOf size
 
 -- Which lists of calls are meant: with whatever refused calls between them, the done calls move first into the slices of one
 -- tile in direction d, each once, and then out of its slices in the other direction, each once. The settings are one for all.
--- Nothing else is assumed: a done call itself shows that the level is 3, and that lengths and registers are right.
+-- Nothing else is assumed: a done move and zero itself shows that the level is 3, and a done call that lengths and registers are right.
 pub record Crosses (s : Settings) (size : ElementSize) (d : Direction) (t : ℕ) (cs : List Call) (za : List ℕ) : Type 0 where
   pub rows : List ℕ
   pub columns : List ℕ

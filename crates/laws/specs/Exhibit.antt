@@ -30,7 +30,7 @@ outward size d t = MovazFromTile (record { size = size; direction = d; rs = 12; 
 abbrev pub wordFor : Operation → ℕ
 wordFor o = getD (encodedAnswer (encodeOf o) .values) 0 0
 
--- a call on slice k: the index register holds k + n, which is above n; its own vectors and predicates, and no memory
+-- a call on slice k: the index register holds k + n; its own vectors and predicates, and no memory
 abbrev pub callOn : ℕ → Operation → (ℕ → List ℕ) → (ℕ → List ℕ) → ℕ → Call
 callOn n o zs ps k = record { word = wordFor o; x = set (replicate 32 0) 12 (k + n); z = zs k; p = ps k; memory = [] }
 
