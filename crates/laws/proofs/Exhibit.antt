@@ -33,8 +33,8 @@ use Rattle.execute.specs.declared.answer.Executed.the-variants.{Done}
 use Rattle.execute.specs.Effect.{selected}
 use Rattle.execute.specs.Execute.{validLengths, operationAnswer}
 use Rattle.execute.proofs.LengthLaws.{whole}
-use Rattle.execute.proofs.ExecuteLaws.{done-when}
-use Rattle.laws.specs.Calls.{Call, stateWith, zaAfter, run, Move, into, out, moveOf, decodedMove, ifDoneMove, moved, withMove, moves}
+use Rattle.execute.proofs.ExecuteLaws.{Refusal, done-when}
+use Rattle.laws.specs.Calls.{Call, stateWith, outcome, zaAfter, run, Move, into, out, moveOf, decodedMove, ifDoneMove, moved, withMove, moves}
 use Rattle.laws.specs.Crossing.{times, slicesOf}
 use Rattle.laws.specs.Exhibit.{inward, outward, wordFor, callOn, crossingCalls, Below, ListsExist, downFrom, OrdersExist, RefusedMayStand}
 use Rattle.laws.proofs.CallLaws.{CallEnds, moves-by, rests, call-ends, none-some, call-long, run-long}
@@ -181,6 +181,14 @@ insert-moves s [] after c za e = rw e (go (call-ends s c za))
     go (rests q r) = ap (moves s after) r
 insert-moves s (b ∷ before) after c za e = ap (withMove (moved s b za)) (insert-moves s before after c (zaAfter s b za) e)
 
+-- a refused call has no move
+refused-none : (s : Settings) (c : Call) (za : List ℕ) → Refusal (outcome s c za .answer) → moved s c za ≡ none
+refused-none s c za n = go (call-ends s c za)
+  where
+    go : CallEnds s c za → moved s c za ≡ none
+    go (moves-by o d q) = absurd (n (d .answer))
+    go (rests q r) = q
+
 pub refused-may-stand : RefusedMayStand
-refused-may-stand s size d t before after c za h e =
-    record { rows = h .rows; columns = h .columns; order = insert-moves s before after c za e ∙ h .order; eachRow = h .eachRow; eachColumn = h .eachColumn }
+refused-may-stand s size d t before after c za h n =
+    record { rows = h .rows; columns = h .columns; order = insert-moves s before after c za (refused-none s c (run s before za) n) ∙ h .order; eachRow = h .eachRow; eachColumn = h .eachColumn }

@@ -5,7 +5,6 @@ use Prim.Native.Nat.{ℕ, zero, suc, _+_, _*_, _/_, _^_, _<_, _≤_}
 use mathlib.Core.Path.{_≡_}
 use mathlib.Core.Bool.{true}
 use mathlib.Core.List.{List, [], _∷_, _++_, map}
-use mathlib.Core.Option.{none}
 use lib.ListN.{length, getD, set, replicate}
 use Rattle.settings.specs.Settings.{isVectorLength, maxLevel}
 use Rattle.settings.specs.declared.Settings.{Settings}
@@ -17,7 +16,8 @@ use Rattle.encoding.specs.declared.operation.Direction.{Direction}
 use Rattle.encoding.specs.declared.operation.Operation.{Operation}
 use Rattle.encoding.specs.declared.operation.Operation.the-variants.{MovaToTile, MovazFromTile}
 use Rattle.tiles.specs.Tile.{flip}
-use Rattle.laws.specs.Calls.{Call, run, moved}
+use Rattle.execute.specs.declared.answer.Executed.the-variants.{Done}
+use Rattle.laws.specs.Calls.{Call, outcome, run}
 use Rattle.laws.specs.Crossing.{EachOnce, slicesOf, Crosses}
 
 -- the words: index register 12 with offset 0, predicate 0, register 0
@@ -59,8 +59,8 @@ downFrom (suc n) = n ∷ downFrom n
 abbrev pub OrdersExist : Type 0
 OrdersExist = (n : ℕ) → EachOnce n (downFrom n) × Below n (downFrom n)
 
--- a refused call, with any answer, may stand anywhere in such a list
+-- a refused call, with any answer but 0, may stand anywhere in such a list
 abbrev pub RefusedMayStand : Type 0
 RefusedMayStand =
     (s : Settings) (size : ElementSize) (d : Direction) (t : ℕ) (before after : List Call) (c : Call) (za : List ℕ) →
-    Crosses s size d t (before ++ after) za → moved s c (run s before za) ≡ none → Crosses s size d t (before ++ c ∷ after) za
+    Crosses s size d t (before ++ after) za → (outcome s c (run s before za) .answer ≡ Done → ⊥) → Crosses s size d t (before ++ c ∷ after) za
