@@ -4,3 +4,4 @@ mod PhaseLaws
 pub mod Exhibit
 pub mod Crossing
 pub mod Between
+pub mod Shown

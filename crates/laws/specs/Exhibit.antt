@@ -12,11 +12,15 @@ use Rattle.encoding.specs.Flat.{bytesOf}
 use Rattle.encoding.specs.Answer.{encodedAnswer}
 use Rattle.encoding.specs.Codec.{encodeOf}
 use Rattle.encoding.specs.declared.operation.ElementSize.{ElementSize}
+use Rattle.encoding.specs.declared.operation.ElementSize.the-variants.{Bits32}
 use Rattle.encoding.specs.declared.operation.Direction.{Direction}
+use Rattle.encoding.specs.declared.operation.Direction.the-variants.{Horizontal, Vertical}
 use Rattle.encoding.specs.declared.operation.Operation.{Operation}
 use Rattle.encoding.specs.declared.operation.Operation.the-variants.{MovaToTile, MovazFromTile}
 use Rattle.tiles.specs.Tile.{flip}
 use Rattle.execute.specs.declared.answer.Executed.the-variants.{Done}
+use Rattle.execute.specs.Answer.{executedNumber}
+use Rattle.execute.specs.Examples.{bytesFrom, settingsAt, zaAt}
 use Rattle.laws.specs.Calls.{Call, outcome, run}
 use Rattle.laws.specs.Crossing.{EachOnce, slicesOf, Crosses}
 
@@ -64,3 +68,40 @@ abbrev pub RefusedMayStand : Type 0
 RefusedMayStand =
     (s : Settings) (size : ElementSize) (d : Direction) (t : ℕ) (before after : List Call) (c : Call) (za : List ℕ) →
     Crosses s size d t (before ++ after) za → (outcome s c (run s before za) .answer ≡ Done → ⊥) → Crosses s size d t (before ++ c ∷ after) za
+
+-- ---- one list in full: vectors of 32 bytes, four-byte elements, tile 1, slices in no order, partial predicates, bytes of ZA that
+-- are not zero and differ from their neighbours, and refused calls
+
+abbrev pub shownRows : List ℕ
+shownRows = 3 ∷ 0 ∷ 6 ∷ 1 ∷ 7 ∷ 4 ∷ 2 ∷ 5 ∷ []
+
+abbrev pub shownColumns : List ℕ
+shownColumns = 5 ∷ 2 ∷ 0 ∷ 7 ∷ 3 ∷ 6 ∷ 1 ∷ 4 ∷ []
+
+-- each call has vectors and predicates of its own
+abbrev pub shownZ : ℕ → List ℕ
+shownZ k = bytesFrom k 1024
+
+abbrev pub shownP : ℕ → List ℕ
+shownP k = bytesFrom k 64
+
+-- too few numbers in X; a word that is no instruction; an active store with no memory
+abbrev pub refusedCalls : List Call
+refusedCalls =
+    record { word = 0xC0000000; x = []; z = shownZ 0; p = shownP 0; memory = [] } ∷
+    record { word = 0xC0000010; x = replicate 32 0; z = shownZ 0; p = shownP 0; memory = [] } ∷
+    record { word = 0xE0220020; x = replicate 32 0; z = shownZ 0; p = shownP 0; memory = [] } ∷ []
+
+-- they are refused with 2, 3 and 7, at any ZA of the right length
+abbrev pub RefusalsShown : Type 0
+RefusalsShown = (za : List ℕ) → length za ≡ 1024 → map (λ (c : Call). executedNumber (outcome (settingsAt 32 0) c za .answer)) refusedCalls ≡ 2 ∷ 3 ∷ 7 ∷ []
+
+-- the list, with those before, between and after its moves
+abbrev pub shownIn : List Call
+shownIn = map (callOn 8 (inward Bits32 Horizontal 1) shownZ shownP) shownRows
+
+abbrev pub shownOut : List Call
+shownOut = map (callOn 8 (outward Bits32 Vertical 1) shownZ shownP) shownColumns
+
+abbrev pub ListShown : Type 0
+ListShown = Crosses (settingsAt 32 0) Bits32 Horizontal 1 (refusedCalls ++ (shownIn ++ (refusedCalls ++ (shownOut ++ (refusedCalls ++ []))))) (zaAt 32)
