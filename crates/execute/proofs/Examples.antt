@@ -38,7 +38,7 @@ byte-2 e i = omega arith
 
 example-2 : Example2
 unfolding table rowOfWord decodeOf isVectorLength scatter active byteOf sliceAt groupAt least movedToTile takenFromTile zeroedInTile takenFromArray zeroedInArray stored storeAnswer answerOf executeOf
-example-2 = record { means = refl; slice = refl; bytes = byte-2; moves = refl }
+example-2 = record { means = refl; slice = refl; bytes = byte-2; moves = refl; partial = refl }
 
 example-3 : Example3
 unfolding table rowOfWord decodeOf isVectorLength scatter active byteOf sliceAt groupAt least movedToTile takenFromTile zeroedInTile takenFromArray zeroedInArray stored storeAnswer answerOf executeOf

@@ -110,6 +110,9 @@ pub record Example2 : Type 0 where
   pub bytes : (e i : ℕ) → byteOf 32 (bytesOf Bits32) 2 Vertical 0 e i ≡ (4 * e + 2) * 32 + i
   pub moves : executed 32 0xC080ACA9 8 (xWith 13 7) (ones 32) ≡
       doneWith (zAt 32) (vectors 32 32 (λ v. cond (eqb (v % 4) 2) (take 4 (drop (4 * (v / 4)) (vectorIn (zAt 32) 32 5)) ++ drop 4 (vectorIn (zaAt 32) 32 v)) (vectorIn (zaAt 32) 32 v))) (memoryOf 8)
+  -- beyond 01's sentence: P3 has bit 4 of each byte clear, so elements 1, 3, 5 and 7 keep what they have
+  pub partial : executed 32 0xC080ACA9 8 (xWith 13 7) (replicate 12 255 ++ (replicate 4 0xEF ++ replicate 48 255)) ≡
+      doneWith (zAt 32) (vectors 32 32 (λ v. cond (eqb (v % 8) 2) (take 4 (drop (4 * (v / 4)) (vectorIn (zAt 32) 32 5)) ++ drop 4 (vectorIn (zaAt 32) 32 v)) (vectorIn (zaAt 32) 32 v))) (memoryOf 8)
 
 -- C0000010 and C0410000: answer 3 at every level
 pub record Example3 : Type 0 where

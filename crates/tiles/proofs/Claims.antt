@@ -8,9 +8,10 @@ use lib.Arith.{digits-lt}
 use lib.ListN.{getD}
 use Rattle.encoding.specs.declared.operation.Direction.the-variants.{Horizontal}
 use Rattle.tiles.specs.Group.{groupOf}
-use Rattle.tiles.specs.Claims.{SlicesCross, BytesDiffer, BytesWithin, GroupsDiffer}
+use Rattle.tiles.specs.Claims.{SlicesCross, BytesDiffer, BytesWithin, GroupsDiffer, ElementsActive}
 use Rattle.tiles.proofs.TileLaws.{digits-same, byteAt-within, byteAt-same}
 use Rattle.tiles.proofs.TileLaws as laws
+use Rattle.tiles.proofs.SliceLaws.{active-element}
 
 pub slices-cross : SlicesCross
 slices-cross S m t s e i = laws.slices-cross S m t Horizontal s e i
@@ -43,3 +44,6 @@ groups-differ B r q v few some whole within = record { below = below; differ = d
 
     differ : (i j : ℕ) → i < r → j < r → getD (groupOf B r v) i 0 ≡ getD (groupOf B r v) j 0 → i ≡ j
     differ i j h k e = digits-same q i v j v within within (sym (vector i h) ∙ e ∙ vector j k) .0
+
+pub elements-active : ElementsActive
+elements-active = active-element
