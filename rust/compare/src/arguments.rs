@@ -40,7 +40,11 @@ impl Arguments {
 
 /// How to call the program, with the names of the mistakes.
 pub fn usage() -> String {
-    let mut usage = String::from("usage: compare [--seed S] [--count N] [--mistake NAME]");
+    let mut usage = String::from(
+        "usage: compare [--seed S] [--count N] [--mistake NAME]\n\
+         Compares the archive with the second program on N random states (200000). With a mistake\n\
+         the second program makes it, and a difference must be found.",
+    );
     for (name, _) in Mistake::NAMED {
         usage.push_str("\n  NAME: ");
         usage.push_str(name);

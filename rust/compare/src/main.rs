@@ -9,6 +9,10 @@ use std::env;
 use std::process::ExitCode;
 
 fn main() -> ExitCode {
+    if env::args_os().any(|word| word == "--help") {
+        println!("{}", usage());
+        return ExitCode::SUCCESS;
+    }
     let arguments = match Arguments::read(env::args_os().skip(1)) {
         Ok(arguments) => arguments,
         Err(message) => {
