@@ -2,7 +2,7 @@
 -- Assumes nothing.
 use mathlib.Core.Path.{refl, sym}
 use Rattle.encoding.specs.Claims.{EncodeInvertsDecode, DecodeInvertsEncode, HigherLevelDecodesSame, rowAt, FitsOneRow, FittingDecodes, UnflattenInvertsFlatten, FlattenInvertsUnflatten, EncodeFlatInvertsDecode, DecodeInvertsEncodeFlat}
-use Rattle.encoding.specs.Examples.{examples, flatExamples, ExamplesHold}
+use Rattle.encoding.specs.Examples.{examples, flatExamples, WordsHold}
 use Rattle.encoding.specs.Flat.{flatOf}
 use Rattle.encoding.specs.Table.{table}
 use Rattle.encoding.specs.Codec.{decodeOf, decodeAnswer, rowOfWord}
@@ -38,6 +38,6 @@ pub decode-inverts-encode-flat : DecodeInvertsEncodeFlat
 decode-inverts-encode-flat = laws.decode-inverts-encode-flat
 
 -- computed
-pub examples-hold : ExamplesHold
+pub words-hold : WordsHold
 unfolding examples flatExamples decodeOf decodeAnswer rowOfWord table
-examples-hold = record { decoded = refl; flattened = refl }
+words-hold = record { decoded = refl; flattened = refl }

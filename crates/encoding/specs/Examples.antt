@@ -1,4 +1,5 @@
--- The worked examples of 01 §7 marked *, as far as they speak of words. To believe: the two lists.
+-- The worked examples of 01 §7 marked *, as far as they speak of words: the part of the one claim about them
+-- (specs/Examples.antt of the crate execute) that says what the words mean. To believe: the two lists.
 -- Assumes nothing.
 use Prim.Native.Nat.{ℕ}
 use mathlib.Core.Path.{_≡_}
@@ -62,6 +63,6 @@ flatExamples =
     []
 
 -- each word decodes, at its level, to what the list says, and has the numbers that the second list says
-pub record ExamplesHold : Type 0 where
+pub record WordsHold : Type 0 where
   pub decoded : map (λ (e : Example). decodeOf (e .word) (e .level)) examples ≡ map (λ (e : Example). e .gives) examples
   pub flattened : map (λ (e : FlatExample). decodeAnswer (e .word) maxLevel) flatExamples ≡ map (λ (e : FlatExample). answerWith done (e .numbers)) flatExamples

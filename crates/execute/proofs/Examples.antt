@@ -1,21 +1,21 @@
 -- The worked examples, computed.
 -- Assumes nothing.
-use Prim.Native.Nat.{ℕ, _+_, _*_, _/_, _%_, _^_}
+use Prim.Native.Nat.{ℕ, _+_, _/_, _%_, _^_}
 use mathlib.Core.Path.{_≡_, refl}
 use mathlib.Core.List.{List}
 use native.Mathlib.Nat.{add-zero, div-one, mod-one}
-use native.Mathlib.Omega.{arith}
 use lib.ListN.{getD}
 use Rattle.encoding.specs.Flat.{bytesOf}
-use Rattle.encoding.specs.declared.operation.ElementSize.the-variants.{Bits8, Bits32, Bits128}
-use Rattle.encoding.specs.declared.operation.Direction.the-variants.{Horizontal, Vertical}
+use Rattle.encoding.specs.declared.operation.ElementSize.the-variants.{Bits8, Bits128}
 use Rattle.settings.specs.Settings.{isVectorLength}
 use Rattle.encoding.specs.Table.{table}
 use Rattle.encoding.specs.Codec.{rowOfWord, decodeOf}
+use Rattle.encoding.proofs.Claims.{words-hold}
 use Rattle.tiles.specs.Scatter.{scatter}
 use Rattle.tiles.specs.Predicate.{active}
 use Rattle.tiles.specs.Tile.{byteOf, sliceAt}
 use Rattle.tiles.specs.Group.{groupAt}
+use Rattle.tiles.proofs.Claims.{places-hold}
 use Rattle.execute.specs.Store.{least}
 use Rattle.execute.specs.Effect.{selected, movedToTile, takenFromTile, zeroedInTile, takenFromArray, zeroedInArray, stored}
 use Rattle.execute.specs.Execute.{storeAnswer, answerOf, executeOf}
@@ -24,21 +24,13 @@ use Rattle.execute.specs.Examples.{Example1, Example2, Example3, Example
 row-1 : (B : ℕ) (x : List ℕ) → selected x 12 0 (B / bytesOf Bits8) ≡ getD x 12 0 % 2 ^ 32 % B
 row-1 B x = rw (div-one, add-zero)
 
-byte-1 : (B s k : ℕ) → sliceAt B (bytesOf Bits8) 0 Horizontal s k ≡ s * B + k
-unfolding sliceAt byteOf
-byte-1 B s k = rw (mod-one, div-one) (omega arith)
-
 example-1 : Example1
 unfolding table rowOfWord decodeOf isVectorLength scatter active byteOf sliceAt groupAt least movedToTile takenFromTile zeroedInTile takenFromArray zeroedInArray stored storeAnswer answerOf executeOf
-example-1 = record { means = refl; row = λ S B x p. row-1 B x; bytes = byte-1; moves = refl }
-
-byte-2 : (e i : ℕ) → byteOf 32 (bytesOf Bits32) 2 Vertical 0 e i ≡ (4 * e + 2) * 32 + i
-unfolding byteOf
-byte-2 e i = omega arith
+example-1 = record { row = λ S B x p. row-1 B x; moves = refl }
 
 example-2 : Example2
 unfolding table rowOfWord decodeOf isVectorLength scatter active byteOf sliceAt groupAt least movedToTile takenFromTile zeroedInTile takenFromArray zeroedInArray stored storeAnswer answerOf executeOf
-example-2 = record { means = refl; slice = refl; bytes = byte-2; moves = refl; partial = refl }
+example-2 = record { slice = refl; moves = refl; partial = refl }
 
 example-3 : Example3
 unfolding table rowOfWord decodeOf isVectorLength scatter active byteOf sliceAt groupAt least movedToTile takenFromTile zeroedInTile takenFromArray zeroedInArray stored storeAnswer answerOf executeOf
@@ -49,35 +41,37 @@ slice-4 x = mod-one (getD x 12 0 % 2 ^ 32 + 0)
 
 example-4 : Example4
 unfolding table rowOfWord decodeOf isVectorLength scatter active byteOf sliceAt groupAt least movedToTile takenFromTile zeroedInTile takenFromArray zeroedInArray stored storeAnswer answerOf executeOf
-example-4 = record { means = refl; slices = refl; slice = λ S x p. slice-4 x; moves = λ w. rw (mod-one (w % 2 ^ 32 + 0)) refl }
+example-4 = record { slices = refl; slice = λ S x p. slice-4 x; moves = λ w. rw (mod-one (w % 2 ^ 32 + 0)) refl }
 
 example-5 : Example5
 unfolding table rowOfWord decodeOf isVectorLength scatter active byteOf sliceAt groupAt least movedToTile takenFromTile zeroedInTile takenFromArray zeroedInArray stored storeAnswer answerOf executeOf
-example-5 = record { low = refl; high = refl }
+example-5 = record { low = refl }
 
 example-6 : Example6
 unfolding table rowOfWord decodeOf isVectorLength scatter active byteOf sliceAt groupAt least movedToTile takenFromTile zeroedInTile takenFromArray zeroedInArray stored storeAnswer answerOf executeOf
-example-6 = record { means = refl; slice = refl; moves = refl }
+example-6 = record { slice = refl; moves = refl }
 
 example-7 : Example7
 unfolding table rowOfWord decodeOf isVectorLength scatter active byteOf sliceAt groupAt least movedToTile takenFromTile zeroedInTile takenFromArray zeroedInArray stored storeAnswer answerOf executeOf
-example-7 = record { means = refl; group = refl; moves = refl }
+example-7 = record { first = refl; moves = refl }
 
 example-8 : Example8
 unfolding table rowOfWord decodeOf isVectorLength scatter active byteOf sliceAt groupAt least movedToTile takenFromTile zeroedInTile takenFromArray zeroedInArray stored storeAnswer answerOf executeOf
-example-8 = record { means = refl; moves = refl; odd = refl }
+example-8 = record { moves = refl; odd = refl }
 
 example-9 : Example9
 unfolding table rowOfWord decodeOf isVectorLength scatter active byteOf sliceAt groupAt least movedToTile takenFromTile zeroedInTile takenFromArray zeroedInArray stored storeAnswer answerOf executeOf
-example-9 = record { means = refl; active = refl; none = refl; aligned = refl }
+example-9 = record { active = refl; none = refl; aligned = refl }
 
 example-10 : Example10
 unfolding table rowOfWord decodeOf isVectorLength scatter active byteOf sliceAt groupAt least movedToTile takenFromTile zeroedInTile takenFromArray zeroedInArray stored storeAnswer answerOf executeOf
-example-10 = record { means = refl; all = refl; some = refl; later = refl }
+example-10 = record { all = refl; some = refl; later = refl }
 
 pub examples-hold : ExamplesHold
 examples-hold =
     record {
+      words = words-hold;
+      places = places-hold;
       example1 = example-1;
       example2 = example-2;
       example3 = example-3;

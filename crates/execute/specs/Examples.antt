@@ -1,4 +1,5 @@
--- The worked examples of 01 §7 marked *, in full, as one claim. To believe: what each part says, and the buffers.
+-- The worked examples of 01 §7 marked *, in full, as one claim: what the words mean, where the bytes lie, and what execution
+-- gives. To believe: what each part says (the first two parts stand where words and places do), and the buffers.
 -- Assumes nothing.
 use Prim.Native.Nat.{ℕ, zero, suc, _+_, _*_, _-_, _/_, _%_, _^_}
 use mathlib.Core.Path.{_≡_}
@@ -8,15 +9,11 @@ use lib.Dec.{eqb}
 use lib.ListN.{getD, set, take, drop, replicate}
 use Rattle.settings.specs.declared.Settings.{Settings}
 use Rattle.encoding.specs.Flat.{bytesOf}
-use Rattle.encoding.specs.Codec.{decodeOf}
+use Rattle.encoding.specs.Examples.{WordsHold}
 use Rattle.encoding.specs.declared.operation.ElementSize.the-variants.{Bits8, Bits32, Bits64, Bits128}
-use Rattle.encoding.specs.declared.operation.Direction.the-variants.{Horizontal, Vertical}
-use Rattle.encoding.specs.declared.operation.RegisterCount.the-variants.{Two, Four}
-use Rattle.encoding.specs.declared.operation.Operation.the-variants.{MovaToTile, MovazFromTile, MovaFromArray, MovazFromArray, St1}
-use Rattle.encoding.specs.declared.operation.Decoded.the-variants as decoded
+use Rattle.encoding.specs.declared.operation.Direction.the-variants.{Horizontal}
 use Rattle.tiles.specs.Scatter.{pick}
-use Rattle.tiles.specs.Tile.{byteOf, sliceAt}
-use Rattle.tiles.specs.Group.{groupOf}
+use Rattle.tiles.specs.Examples.{PlacesHold}
 use Rattle.execute.specs.Answer.{executedNumber, executedAddress}
 use Rattle.execute.specs.Effect.{State, selected, sliceIn}
 use Rattle.execute.specs.Execute.{Outcome, executeOf}
@@ -92,22 +89,18 @@ doneWith z za memory = record { number = 0; address = 0; state = record { z = z;
 abbrev pub refusedWith : ℕ → ℕ → ℕ → ℕ → Seen
 refusedWith B n number address = record { number = number; address = address; state = stateAt B n }
 
--- ---- the examples
+-- ---- what execution gives
 
 -- C0000000: byte tile, row (W12) mod B, P0, Z0
 pub record Example1 : Type 0 where
-  pub means : decodeOf 0xC0000000 1 ≡ decoded.Done (MovaToTile (record { size = Bits8; direction = Horizontal; rs = 12; pg = 0; zn = 0; zad = 0; off = 0 }))
   pub row : (S B : ℕ) (x p : List ℕ) → sliceIn S B x p (record { size = Bits8; direction = Horizontal; rs = 12; pg = 0; zn = 0; zad = 0; off = 0 }) ≡ getD x 12 0 % 2 ^ 32 % B
-  pub bytes : (B s k : ℕ) → sliceAt B (bytesOf Bits8) 0 Horizontal s k ≡ s * B + k
   -- B 16, W12 = 35, so row 3, under alternating bits
   pub moves : executed 16 0xC0000000 8 (xWith 12 35) (predicate0 16 (0x55 ∷ 0x55 ∷ [])) ≡
       doneWith (zAt 16) (vectors 16 16 (λ v. cond (eqb v 3) (alternate true (vectorIn (zAt 16) 16 0) (vectorIn (zaAt 16) 16 3)) (vectorIn (zaAt 16) 16 v))) (memoryOf 8)
 
 -- C080ACA9: m = 4, vertical, W13, P3, Z5, tile 2, offset 1; B 32, W13 = 7: slice 0, element e is bytes 0 to 3 of vector 4e + 2
 pub record Example2 : Type 0 where
-  pub means : decodeOf 0xC080ACA9 1 ≡ decoded.Done (MovaToTile (record { size = Bits32; direction = Vertical; rs = 13; pg = 3; zn = 5; zad = 2; off = 1 }))
   pub slice : selected (xWith 13 7) 13 1 (32 / bytesOf Bits32) ≡ 0
-  pub bytes : (e i : ℕ) → byteOf 32 (bytesOf Bits32) 2 Vertical 0 e i ≡ (4 * e + 2) * 32 + i
   pub moves : executed 32 0xC080ACA9 8 (xWith 13 7) (ones 32) ≡
       doneWith (zAt 32) (vectors 32 32 (λ v. cond (eqb (v % 4) 2) (take 4 (drop (4 * (v / 4)) (vectorIn (zAt 32) 32 5)) ++ drop 4 (vectorIn (zaAt 32) 32 v)) (vectorIn (zaAt 32) 32 v))) (memoryOf 8)
   -- beyond 01's sentence: P3 has bit 4 of each byte clear, so elements 1, 3, 5 and 7 keep what they have
@@ -121,19 +114,16 @@ pub record Example3 : Type 0 where
 
 -- C0C1000F, B 16: n = 1; vector 15 whatever W12 holds
 pub record Example4 : Type 0 where
-  pub means : decodeOf 0xC0C1000F 1 ≡ decoded.Done (MovaToTile (record { size = Bits128; direction = Horizontal; rs = 12; pg = 0; zn = 0; zad = 15; off = 0 }))
   pub slices : 16 / bytesOf Bits128 ≡ 1
   pub slice : (S : ℕ) (x p : List ℕ) → sliceIn S 16 x p (record { size = Bits128; direction = Horizontal; rs = 12; pg = 0; zn = 0; zad = 15; off = 0 }) ≡ 0
   pub moves : (w : ℕ) → executed 16 0xC0C1000F 8 (xWith 12 w) (ones 16) ≡ doneWith (zAt 16) (take 240 (zaAt 16) ++ vectorIn (zAt 16) 16 0) (memoryOf 8)
 
--- C0020200: level 2 gives 3; level 3 decodes
+-- C0020200: level 2 gives 3; level 3 decodes, which its word says
 pub record Example5 : Type 0 where
   pub low : executedAt 2 0xC0020200 ≡ refusedWith 16 8 3 0
-  pub high : decodeOf 0xC0020200 3 ≡ decoded.Done (MovazFromTile (record { size = Bits8; direction = Horizontal; rs = 12; zan = 0; off = 0; zd = 0 }))
 
 -- C0C2E3BF: m = 8, vertical, W15, tile 6, offset 1, Z31; B 64, W15 = 4,294,967,295: slice 0
 pub record Example6 : Type 0 where
-  pub means : decodeOf 0xC0C2E3BF 3 ≡ decoded.Done (MovazFromTile (record { size = Bits64; direction = Vertical; rs = 15; zan = 6; off = 1; zd = 31 }))
   pub slice : selected (xWith 15 4294967295) 15 1 (64 / bytesOf Bits64) ≡ 0
   pub moves : executed 64 0xC0C2E3BF 8 (xWith 15 4294967295) (ones 64) ≡
       doneWith (take (31 * 64) (zAt 64) ++ vectors 8 8 (λ e. take 8 (vectorIn (zaAt 64) 64 (8 * e + 6))))
@@ -141,14 +131,12 @@ pub record Example6 : Type 0 where
 
 -- C0064CFC: W10, offset 7; B 16, W10 = 2: vectors 1, 5, 9, 13 to Z28 to Z31
 pub record Example7 : Type 0 where
-  pub means : decodeOf 0xC0064CFC 2 ≡ decoded.Done (MovaFromArray (record { registers = Four; rv = 10; off = 7; zd = 28 }))
-  pub group : groupOf 16 4 (selected (xWith 10 2) 10 7 4) ≡ 1 ∷ 5 ∷ 9 ∷ 13 ∷ []
+  pub first : selected (xWith 10 2) 10 7 (16 / 4) ≡ 1
   pub moves : executed 16 0xC0064CFC 8 (xWith 10 2) (ones 16) ≡
       doneWith (take (28 * 16) (zAt 16) ++ (vectorIn (zaAt 16) 16 1 ++ (vectorIn (zaAt 16) 16 5 ++ (vectorIn (zaAt 16) 16 9 ++ vectorIn (zaAt 16) 16 13)))) (zaAt 16) (memoryOf 8)
 
 -- C0060A6A: W8, offset 3; B 16, W8 = 6: vectors 1 and 9 to Z10 and Z11, both then zero. C0060A01 gives 3
 pub record Example8 : Type 0 where
-  pub means : decodeOf 0xC0060A6A 3 ≡ decoded.Done (MovazFromArray (record { registers = Two; rv = 8; off = 3; zd = 10 }))
   pub moves : executed 16 0xC0060A6A 8 (xWith 8 6) (ones 16) ≡
       doneWith (take 160 (zAt 16) ++ (vectorIn (zaAt 16) 16 1 ++ (vectorIn (zaAt 16) 16 9 ++ drop 192 (zAt 16))))
       (take 16 (zaAt 16) ++ (replicate 16 0 ++ (take 112 (drop 32 (zaAt 16)) ++ (replicate 16 0 ++ drop 160 (zaAt 16))))) (memoryOf 8)
@@ -156,7 +144,6 @@ pub record Example8 : Type 0 where
 
 -- E03F03E0, stack pointer 1008 hex, an active element: 6. None active: done, nothing written
 pub record Example9 : Type 0 where
-  pub means : decodeOf 0xE03F03E0 1 ≡ decoded.Done (St1 (record { size = Bits8; direction = Horizontal; rs = 12; pg = 0; rn = 31; rm = 31; zat = 0; imm = 0 }))
   -- whichever of the sixteen elements is the active one
   pub active : map (λ (e : ℕ). executed 16 0xE03F03E0 8 (xWith 31 0x1008) (predicate0 16 (2 ^ e % 256 ∷ 2 ^ e / 256 ∷ []))) (0 ∷ 1 ∷ 2 ∷ 3 ∷ 4 ∷ 5 ∷ 6 ∷ 7 ∷ 8 ∷ 9 ∷ 10 ∷ 11 ∷ 12 ∷ 13 ∷ 14 ∷ 15 ∷ []) ≡ replicate 16 (refusedWith 16 8 6 0)
   pub none : executed 16 0xE03F03E0 8 (xWith 31 0x1008) (predicate0 16 (0 ∷ 0 ∷ [])) ≡ doneWith (zAt 16) (zaAt 16) (memoryOf 8)
@@ -167,7 +154,6 @@ pub record Example9 : Type 0 where
 -- E0220020, B 16, X1 = 2^64 - 8, X2 = 4, memory address 0, length 64. All active: 7, address FFFFFFFFFFFFFFFC. Elements 4 to 15
 -- only: done, bytes 0 to 11 written; with W12 = 5 these are of row 5
 pub record Example10 : Type 0 where
-  pub means : decodeOf 0xE0220020 1 ≡ decoded.Done (St1 (record { size = Bits8; direction = Horizontal; rs = 12; pg = 0; rn = 1; rm = 2; zat = 0; imm = 0 }))
   pub all : executed 16 0xE0220020 64 (set (set (xWith 12 5) 1 (2 ^ 64 - 8)) 2 4) (ones 16) ≡ refusedWith 16 64 7 0xFFFFFFFFFFFFFFFC
   pub some : executed 16 0xE0220020 64 (set (set (xWith 12 5) 1 (2 ^ 64 - 8)) 2 4) (predicate0 16 (0xF0 ∷ 0xFF ∷ [])) ≡
       doneWith (zAt 16) (zaAt 16) (drop 4 (vectorIn (zaAt 16) 16 5) ++ drop 12 (memoryOf 64))
@@ -175,6 +161,8 @@ pub record Example10 : Type 0 where
   pub later : executed 16 0xE0220020 64 (set (set (xWith 12 5) 1 56) 2 0) (ones 16) ≡ refusedWith 16 64 7 64
 
 pub record ExamplesHold : Type 0 where
+  pub words : WordsHold
+  pub places : PlacesHold
   pub example1 : Example1
   pub example2 : Example2
   pub example3 : Example3

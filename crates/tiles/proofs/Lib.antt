@@ -1,3 +1,4 @@
+mod Examples
 pub mod ScatterLaws
 pub mod TileLaws
 pub mod SliceLaws
