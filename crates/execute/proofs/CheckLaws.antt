@@ -1,29 +1,24 @@
 -- The three answers of the check of settings and lengths.
 -- Assumes nothing.
-use Prim.Native.Nat.{ℕ, _*_, _≤_}
+use Prim.Native.Nat.{ℕ, _≤_}
 use mathlib.Core.Path.{_≡_, refl}
 use mathlib.Core.Bool.{Bool, true, false, and-eq-true-iff}
-use native.Mathlib.Nat.{mul-le-mul}
 use lib.Dec.{leb}
 use borrow.Author.Tests.{eq-eqb, le-leb}
 use Rattle.settings.specs.Settings.{isVectorLength, validSettings, maxLevel}
 use Rattle.settings.specs.declared.Settings.{Settings}
-use Rattle.encoding.specs.declared.operation.ElementSize.the-variants.{Bits8}
+use Rattle.settings.proofs.SettingsLaws.{vector-length-small}
 use Rattle.execute.specs.declared.check.Buffers.the-variants.{Valid, BadSettings, BadLengths}
 use Rattle.execute.specs.Execute.{validLengths}
 use Rattle.execute.specs.Promise.{checkOf}
 use Rattle.execute.proofs.ExecuteLaws.{Lengths, lengths-facts}
-use Rattle.execute.proofs.LengthLaws.{whole}
 
 pub vector-valid : (s : Settings) → validSettings (s .«vector_bytes») (s .level) ≡ true → isVectorLength (s .«vector_bytes») ≡ true
 vector-valid s e = and-eq-true-iff (isVectorLength (s .«vector_bytes»)) (leb (s .level) maxLevel) .0 e .0
 
--- a valid vector length is at most 256, and its square fits
+-- a valid vector length is at most 256
 pub longest : (s : Settings) → validSettings (s .«vector_bytes») (s .level) ≡ true → s .«vector_bytes» ≤ 256
-longest s e = whole Bits8 (s .«vector_bytes») (vector-valid s e) .longest
-
-pub square-small : (B : ℕ) → B ≤ 256 → B * B ≤ 65536
-square-small B h = mul-le-mul h h
+longest s e = vector-length-small (s .«vector_bytes») (vector-valid s e)
 
 module _ (s : Settings) (lx lz lp lza lm : ℕ) where
   facts-lengths : Lengths s lx lz lp lza lm → validLengths s lx lz lp lza lm ≡ true

@@ -8,6 +8,7 @@ use native.Mathlib.Nat.{mul-le-mul-right, add-mul, one-mul, mod-lt, div-add-mod'
 use native.Mathlib.Omega.{arith}
 use lib.ListN.{getD}
 use Rattle.settings.specs.Settings.{isVectorLength}
+use Rattle.settings.proofs.SettingsLaws.{five-lengths}
 use Rattle.encoding.specs.Flat.{bytesOf, registersOf}
 use Rattle.encoding.specs.declared.operation.ElementSize.{ElementSize}
 use Rattle.encoding.specs.declared.operation.RegisterCount.{RegisterCount}
@@ -22,7 +23,7 @@ use Rattle.tiles.specs.Group.{groupOf, groupAt}
 use Rattle.tiles.proofs.Claims.{groups-differ}
 use Rattle.moves.specs.Slice.{Placed}
 use Rattle.execute.specs.Effect.{movedToTile, takenFromTile, zeroedInTile, takenFromArray, zeroedInArray}
-use Rattle.execute.proofs.LengthLaws.{five-lengths, whole}
+use Rattle.execute.proofs.LengthLaws.{whole}
 
 -- register r of a number of registers of B bytes each lies within them
 pub register-within : (B r count : ℕ) → r < count → r * B + B ≤ count * B

@@ -8,7 +8,7 @@ use mathlib.Core.List.{List}
 use mathlib.Core.Option.{Option, none, some}
 use lib.Dec.{eqb, leb}
 use lib.ListN.{length}
-use Rattle.settings.specs.Settings.{validSettings}
+use Rattle.settings.specs.Settings.{validSettings, xNumbers, zBytes, pBytes, zaBytes}
 use Rattle.settings.specs.declared.Settings.{Settings}
 use Rattle.encoding.specs.Flat.{bytesOf}
 use Rattle.encoding.specs.Codec.{decodeOf}
@@ -34,10 +34,10 @@ guard false refusal rest = refusal
 abbrev pub strideOf : Settings → ℕ
 strideOf s = s .«vector_bytes»
 
--- the lengths that B fixes, and memory ends at 2^64 or before: X has 32 numbers, Z 32 registers, P 16 of B / 8 bytes
+-- the lengths that B fixes, and memory ends at 2^64 or before
 abbrev pub validLengths : Settings → ℕ → ℕ → ℕ → ℕ → ℕ → Bool
 validLengths s lx lz lp lza lm =
-    eqb lx 32 && eqb lz (32 * s .«vector_bytes») && eqb lp (16 * (s .«vector_bytes» / 8)) && eqb lza (s .«vector_bytes» * s .«vector_bytes») &&
+    eqb lx xNumbers && eqb lz (zBytes (s .«vector_bytes»)) && eqb lp (pBytes (s .«vector_bytes»)) && eqb lza (zaBytes (s .«vector_bytes»)) &&
     leb (s .«memory_address» + lm) (2 ^ 64)
 
 module _ (s : Settings) (x p : List ℕ) (lm : ℕ) where

@@ -1,5 +1,7 @@
 // What hosts link: functions over numbers and slices, which only call the crates below.
-ghost use Rattle.sme_move.specs.Export.{Exports};
+ghost use mathlib.Core.Path.{_≡_};
+ghost use Rattle.sme_move.specs.Export.{Exports, DecodeExports, EncodeExports, checkNumber, LengthExports};
+use encoding::Decoded;
 use settings::Settings;
 
 // Executes one instruction word on the buffers that are lent, and returns the answer's number
@@ -32,4 +34,49 @@ pub extern "C" fn sme_execute(
     let answer = execute::execute(settings, word, x, z, p, za, memory);
     *address = answer.address();
     answer.number()
+}
+
+// Decodes a word at a feature level, and returns the answer's number: 0 with the operation's eleven
+// numbers in `fields`, 1 for a level above 3, 3 for a word that is no instruction of the level. A
+// refusal leaves `fields` as it was.
+#[no_mangle]
+pub extern "C" fn sme_decode(word: u32, level: u64, fields: &mut [u8; 11]) -> u32
+    ensures { λ r. ⌜ DecodeExports word level (now (fields .entry)) r (now (fields .exit)) ⌝ }
+{
+    let decoded = decoder::decode(word, level);
+    let Decoded::Done(operation) = decoded else {
+        return decoded.number();
+    };
+    *fields = flat::flatten(operation);
+    decoded.number()
+}
+
+// Encodes the operation that has these eleven numbers, and returns the answer's number: 0 with its word
+// in `word`, or 8 with 0 there where no word has such an operation.
+#[no_mangle]
+pub extern "C" fn sme_encode(fields: &[u8; 11], word: &mut u32) -> u32
+    ensures { λ r. ⌜ EncodeExports (now (fields .entry)) r (now (word .exit)) ⌝ }
+{
+    let encoded = flat::encode_flat(fields);
+    *word = encoded.word();
+    encoded.number()
+}
+
+// 0 where settings may have this vector length and feature level, else 1.
+#[no_mangle]
+pub extern "C" fn sme_check_settings(vector_bytes: u64, level: u64) -> u32
+    ensures { λ r. ⌜ r ≡ checkNumber «vector_bytes» level ⌝ }
+{
+    let made = Settings::new(vector_bytes, level);
+    let answer = made.answer;
+    answer.number()
+}
+
+// The lengths that a vector length fixes, in the order X (in numbers), Z, P, ZA (in bytes), and 0; or 1
+// for a vector length that is not allowed, with `lengths` as it was.
+#[no_mangle]
+pub extern "C" fn sme_lengths(vector_bytes: u64, lengths: &mut [u64; 4]) -> u32
+    ensures { λ r. ⌜ LengthExports «vector_bytes» (now (lengths .entry)) r (now (lengths .exit)) ⌝ }
+{
+    settings::measure(vector_bytes, lengths).number()
 }

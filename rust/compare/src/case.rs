@@ -1,7 +1,7 @@
 //! One case, and what each of the two programs makes of it.
 
-use crate::ffi;
 use second::execute::{execute_with, Buffers, Mistake, Settings};
+use std::hint::black_box;
 
 /// A state and a word. The buffers are used again for the next case, so
 /// that no case has to ask for room.
@@ -62,18 +62,20 @@ impl Outcome {
         (self.answer, self.address) = execute_with(mistake, &case.settings, case.word, buffers);
     }
 
-    /// Runs the case through the archive.
+    /// Runs the case through the archive. The black boxes keep the compiler
+    /// from taking it that X and P, lent for reading only, are unchanged.
     pub fn run_archive(&mut self, case: &Case) {
         self.copy_buffers(case);
-        (self.answer, self.address) = ffi::execute(
-            &case.settings,
-            case.word,
-            &mut self.x,
-            &mut self.z,
-            &mut self.p,
-            &mut self.za,
-            &mut self.memory,
-        );
+        let buffers = sme_move::Buffers {
+            x: black_box(&self.x),
+            z: &mut self.z,
+            p: black_box(&self.p),
+            za: &mut self.za,
+            memory: &mut self.memory,
+        };
+        let settings = archive_settings(&case.settings);
+        (self.answer, self.address) = sme_move::numbers::execute(settings, case.word, buffers);
+        black_box((&mut self.x, &mut self.p));
     }
 
     /// The buffers as the case has them, in the room of the last case.
@@ -97,4 +99,16 @@ impl Outcome {
             && self.za == other.za
             && self.memory == other.memory
     }
+}
+
+/// The settings as the binding has them, valid or not.
+pub fn archive_settings(settings: &Settings) -> sme_move::Settings {
+    let mut own = sme_move::Settings::new(sme_move::Settings::MIN_VECTOR_BYTES, 0)
+        .expect("the shortest vectors are allowed");
+    own.vector_bytes = settings.vector_bytes;
+    own.level = settings.level;
+    own.streaming = settings.streaming;
+    own.za = settings.za_on;
+    own.memory_address = settings.memory_address;
+    own
 }

@@ -4,8 +4,8 @@ use native.Mathlib.Omega.{arith}
 use mathlib.Core.Path.{_≡_, sym, _∙_}
 use mathlib.Core.Bool.{true}
 use Rattle.settings.specs.Settings.{validSettings}
-use Rattle.settings.proofs.SettingsLaws.{checked-valid, checked-bad}
-use Rattle.execute.proofs.CheckLaws.{longest, square-small, bad-settings, bad-lengths, valid}
+use Rattle.settings.proofs.SettingsLaws.{checked-valid, checked-bad, square-small}
+use Rattle.execute.proofs.CheckLaws.{longest, bad-settings, bad-lengths, valid}
 use borrow.Author.Needs.{needs}
 use Rattle.execute.proofs.check.check_buffers.Statement.{statement}
 use Rattle.execute.proofs.check.check_buffers.Tie as tie

@@ -2,7 +2,7 @@
 
 use crate::plain;
 use crate::task::{Active, Task};
-use compare::ffi;
+use compare::case::archive_settings;
 use second::execute::{execute, Settings};
 use second::inputs::random::Random;
 use std::hint::black_box;
@@ -18,6 +18,7 @@ pub struct Machine {
     pub vector_bytes: usize,
     element_bytes: usize,
     settings: Settings,
+    archive_settings: sme_move::Settings,
     word: u32,
     x: Vec<u64>,
     z: Vec<u8>,
@@ -37,16 +38,18 @@ impl Machine {
         let mut x = vec![INDEX; 32];
         x[1] = ADDRESS;
         x[2] = 0;
+        let settings = Settings {
+            vector_bytes: vector_bytes as u64,
+            level: 3,
+            streaming: true,
+            za_on: true,
+            memory_address: ADDRESS,
+        };
         Machine {
             vector_bytes,
             element_bytes: task.element_bytes,
-            settings: Settings {
-                vector_bytes: vector_bytes as u64,
-                level: 3,
-                streaming: true,
-                za_on: true,
-                memory_address: ADDRESS,
-            },
+            archive_settings: archive_settings(&settings),
+            settings,
             word: task.word,
             x,
             z: bytes(32 * vector_bytes),
@@ -58,16 +61,14 @@ impl Machine {
 
     pub fn archive(&mut self) -> u32 {
         let word = black_box(self.word);
-        ffi::execute(
-            &self.settings,
-            word,
-            &mut self.x,
-            &mut self.z,
-            &mut self.p,
-            &mut self.za,
-            &mut self.memory,
-        )
-        .0
+        let buffers = sme_move::Buffers {
+            x: &self.x,
+            z: &mut self.z,
+            p: &self.p,
+            za: &mut self.za,
+            memory: &mut self.memory,
+        };
+        sme_move::numbers::execute(self.archive_settings, word, buffers).0
     }
 
     pub fn second(&mut self) -> u32 {

@@ -1,4 +1,4 @@
-//! Links the proved archive that the second program is compared with.
+//! Links the proved archive.
 
 use std::env;
 use std::path::{Path, PathBuf};
@@ -15,7 +15,7 @@ fn main() {
     let archive = directory.join("libsme_move.a");
     if !archive.is_file() {
         eprintln!(
-            "compare: there is no {}: run `rt staticlib sme_move`, or set {VARIABLE} to its directory",
+            "sme_move: there is no {}: run `rt staticlib sme_move`, or set {VARIABLE} to its directory",
             archive.display()
         );
         exit(1)

@@ -1,0 +1,86 @@
+//! The answers other than 'done'.
+
+use std::error::Error;
+use std::fmt;
+
+/// Why a call was refused, in the order of checking: the lowest that applies is given.
+#[derive(Clone, Copy, Debug, PartialEq, Eq, Hash)]
+#[non_exhaustive]
+pub enum Refusal {
+    /// 1: the vector length is not 16, 32, 64, 128 or 256 bytes, or the level is above 3.
+    BadSettings,
+    /// 2: a buffer has not the length that the vector length fixes, or memory ends above 2^64.
+    BadLengths,
+    /// 3: the word is no instruction of the level.
+    Undecodable,
+    /// 4: streaming mode is off.
+    StreamingOff,
+    /// 5: ZA is off.
+    ZaOff,
+    /// 6: the stack pointer is the base of a store with an active element, and no multiple of 16.
+    StackMisaligned,
+    /// 7: a byte of an active element is not in memory; the first such byte's address.
+    OutsideMemory { address: u64 },
+    /// 8: no word encodes this operation.
+    OutOfRange,
+}
+
+impl Refusal {
+    /// The answer's number.
+    pub fn number(self) -> u32 {
+        match self {
+            Refusal::BadSettings => 1,
+            Refusal::BadLengths => 2,
+            Refusal::Undecodable => 3,
+            Refusal::StreamingOff => 4,
+            Refusal::ZaOff => 5,
+            Refusal::StackMisaligned => 6,
+            Refusal::OutsideMemory { .. } => 7,
+            Refusal::OutOfRange => 8,
+        }
+    }
+
+    /// The address that answer 7 carries, 0 with every other.
+    pub fn address(self) -> u64 {
+        match self {
+            Refusal::OutsideMemory { address } => address,
+            _ => 0,
+        }
+    }
+
+    /// The answer of this number. The archive gives no other number, so another one means that it is
+    /// not the archive this crate was written for.
+    pub(crate) fn check(number: u32, address: u64) -> Result<(), Refusal> {
+        Err(match number {
+            0 => return Ok(()),
+            1 => Refusal::BadSettings,
+            2 => Refusal::BadLengths,
+            3 => Refusal::Undecodable,
+            4 => Refusal::StreamingOff,
+            5 => Refusal::ZaOff,
+            6 => Refusal::StackMisaligned,
+            7 => Refusal::OutsideMemory { address },
+            8 => Refusal::OutOfRange,
+            _ => panic!("the archive gave answer {number}, which does not exist"),
+        })
+    }
+}
+
+impl fmt::Display for Refusal {
+    fn fmt(&self, f: &mut fmt::Formatter<'_>) -> fmt::Result {
+        match self {
+            Refusal::BadSettings => write!(f, "the vector length or the level is not allowed"),
+            Refusal::BadLengths => write!(f, "a buffer has the wrong length"),
+            Refusal::Undecodable => write!(f, "the word is no instruction of this level"),
+            Refusal::StreamingOff => write!(f, "streaming mode is off"),
+            Refusal::ZaOff => write!(f, "ZA is off"),
+            Refusal::StackMisaligned => write!(f, "the stack pointer is no multiple of 16"),
+            Refusal::OutsideMemory { address } => {
+                write!(f, "address {address:016X} is not in memory")
+            }
+            Refusal::OutOfRange => write!(f, "no word encodes this operation"),
+        }
+    }
+}
+
+impl Error for Refusal {}

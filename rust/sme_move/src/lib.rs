@@ -1,0 +1,33 @@
+//! The move unit of a simulator for Arm's Scalable Matrix Extension (SME): safe functions over the
+//! proved archive `libsme_move.a`, which `rt staticlib sme_move` makes.
+//!
+//! A host owns every buffer and lends it for one call: the 32 numbers of X, the vector registers Z,
+//! the predicate registers P, the array ZA, and memory. Every word, setting and buffer length has an
+//! answer; a refusal changes no buffer.
+//!
+//! ```
+//! use sme_move::{Settings, State};
+//!
+//! let settings = Settings::new(16, 3)?.with_streaming(true).with_za(true);
+//! let mut state = State::new(settings)?;
+//! state.p.fill(0xFF);
+//! state.vector_mut(0).fill(7);
+//! state.x[12] = 5;
+//! // Move vector register 0 to row 5 of the tile of 1-byte elements.
+//! state.execute(settings, 0xC0000000, &mut [])?;
+//! assert_eq!(state.za[5 * 16..6 * 16], [7; 16]);
+//! # Ok::<(), sme_move::Refusal>(())
+//! ```
+
+mod answer;
+mod execute;
+pub mod numbers;
+mod operation;
+mod settings;
+mod words;
+
+pub use answer::Refusal;
+pub use execute::{execute, Buffers, State};
+pub use operation::{Direction, ElementSize, Operation, RegisterCount};
+pub use settings::{Lengths, Settings};
+pub use words::{decode, decode_fields, encode, encode_fields, Fields};

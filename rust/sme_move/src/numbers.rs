@@ -1,0 +1,94 @@
+//! The archive's functions as they are, answers as numbers, for hosts that want these. All unsafe code of
+//! this package is here.
+
+use crate::execute::Buffers;
+use crate::settings::Settings;
+
+/// What a result holds before the call, so that tests notice one that is not written.
+const UNWRITTEN: u64 = 0x5A5A_5A5A_5A5A_5A5A;
+
+extern "C" {
+    fn sme_execute(
+        vector_bytes: u64,
+        level: u64,
+        streaming: bool,
+        za_on: bool,
+        memory_address: u64,
+        word: u32,
+        x: *const u64,
+        x_len: usize,
+        z: *mut u8,
+        z_len: usize,
+        p: *const u8,
+        p_len: usize,
+        za: *mut u8,
+        za_len: usize,
+        memory: *mut u8,
+        memory_len: usize,
+        address: *mut u64,
+    ) -> u32;
+    fn sme_decode(word: u32, level: u64, fields: *mut [u8; 11]) -> u32;
+    fn sme_encode(fields: *const [u8; 11], word: *mut u32) -> u32;
+    fn sme_check_settings(vector_bytes: u64, level: u64) -> u32;
+    fn sme_lengths(vector_bytes: u64, lengths: *mut [u64; 4]) -> u32;
+}
+
+/// Executes a word: the answer's number, and the address that 7 carries, 0 with every other.
+pub fn execute(settings: Settings, word: u32, buffers: Buffers<'_>) -> (u32, u64) {
+    let Buffers {
+        x,
+        z,
+        p,
+        za,
+        memory,
+    } = buffers;
+    let mut address = UNWRITTEN;
+    // SAFETY: each pointer comes from a slice that lives through the call and goes with that slice's
+    // length. What is written is borrowed as writable, so it overlaps nothing; X and P are only read.
+    let number = unsafe {
+        sme_execute(
+            settings.vector_bytes,
+            settings.level,
+            settings.streaming,
+            settings.za,
+            settings.memory_address,
+            word,
+            x.as_ptr(),
+            x.len(),
+            z.as_mut_ptr(),
+            z.len(),
+            p.as_ptr(),
+            p.len(),
+            za.as_mut_ptr(),
+            za.len(),
+            memory.as_mut_ptr(),
+            memory.len(),
+            &mut address,
+        )
+    };
+    (number, address)
+}
+
+/// Decodes a word: 0 with its eleven numbers written, or 1 or 3 with `fields` as it was.
+pub fn decode(word: u32, level: u64, fields: &mut [u8; 11]) -> u32 {
+    // SAFETY: `fields` is a writable place of eleven bytes that lives through the call.
+    unsafe { sme_decode(word, level, fields) }
+}
+
+/// Encodes eleven numbers: 0 with the word written, or 8 with 0 written.
+pub fn encode(fields: &[u8; 11], word: &mut u32) -> u32 {
+    // SAFETY: both are places of their types that live through the call, and `word` is writable.
+    unsafe { sme_encode(fields, word) }
+}
+
+/// 0 where the vector length and the level are allowed, else 1.
+pub fn check_settings(vector_bytes: u64, level: u64) -> u32 {
+    // SAFETY: numbers only.
+    unsafe { sme_check_settings(vector_bytes, level) }
+}
+
+/// 0 with the lengths of X (in numbers), Z, P and ZA (in bytes) written, or 1 with `lengths` as it was.
+pub fn lengths(vector_bytes: u64, lengths: &mut [u64; 4]) -> u32 {
+    // SAFETY: `lengths` is a writable place of four numbers that lives through the call.
+    unsafe { sme_lengths(vector_bytes, lengths) }
+}

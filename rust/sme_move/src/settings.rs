@@ -1,0 +1,96 @@
+//! Settings of the simulated machine, and the lengths that they fix.
+
+use crate::answer::Refusal;
+use crate::numbers;
+
+/// The settings of one machine. Any numbers can be in the fields, so every call that takes settings
+/// checks them.
+#[derive(Clone, Copy, Debug, PartialEq, Eq, Hash)]
+#[non_exhaustive]
+pub struct Settings {
+    /// The streaming vector length in bytes.
+    pub vector_bytes: u64,
+    /// The feature level: 0 none, 1 SME, 2 SME2, 3 SME2.1.
+    pub level: u64,
+    /// Whether streaming mode is on.
+    pub streaming: bool,
+    /// Whether ZA is on.
+    pub za: bool,
+    /// The address of memory's first byte.
+    pub memory_address: u64,
+}
+
+/// The lengths that a vector length fixes: X in numbers, the others in bytes.
+#[derive(Clone, Copy, Debug, PartialEq, Eq, Hash)]
+pub struct Lengths {
+    pub x: usize,
+    pub z: usize,
+    pub p: usize,
+    pub za: usize,
+}
+
+impl Settings {
+    pub const MIN_VECTOR_BYTES: u64 = 16;
+
+    pub const MAX_VECTOR_BYTES: u64 = 256;
+
+    pub const MAX_LEVEL: u64 = 3;
+
+    /// Settings of this vector length and level, with both switches off and memory at address 0.
+    ///
+    /// ```
+    /// use sme_move::{Refusal, Settings};
+    ///
+    /// assert_eq!(Settings::new(64, 3).map(|s| s.vector_bytes), Ok(64));
+    /// assert_eq!(Settings::new(48, 3), Err(Refusal::BadSettings));
+    /// ```
+    pub fn new(vector_bytes: u64, level: u64) -> Result<Settings, Refusal> {
+        let settings = Settings {
+            vector_bytes,
+            level,
+            streaming: false,
+            za: false,
+            memory_address: 0,
+        };
+        settings.check().map(|()| settings)
+    }
+
+    /// Whether the vector length and the level are allowed.
+    pub fn check(self) -> Result<(), Refusal> {
+        Refusal::check(numbers::check_settings(self.vector_bytes, self.level), 0)
+    }
+
+    #[must_use]
+    pub fn with_streaming(mut self, on: bool) -> Settings {
+        self.streaming = on;
+        self
+    }
+
+    #[must_use]
+    pub fn with_za(mut self, on: bool) -> Settings {
+        self.za = on;
+        self
+    }
+
+    #[must_use]
+    pub fn with_memory_address(mut self, address: u64) -> Settings {
+        self.memory_address = address;
+        self
+    }
+
+    /// The lengths that buffers must have.
+    ///
+    /// ```
+    /// use sme_move::Settings;
+    ///
+    /// let lengths = Settings::new(32, 1)?.lengths()?;
+    /// assert_eq!((lengths.x, lengths.z, lengths.p, lengths.za), (32, 1024, 64, 1024));
+    /// # Ok::<(), sme_move::Refusal>(())
+    /// ```
+    pub fn lengths(self) -> Result<Lengths, Refusal> {
+        let mut lengths = [0; 4];
+        Refusal::check(numbers::lengths(self.vector_bytes, &mut lengths), 0)?;
+        let [x, z, p, za] = lengths.map(|length| length as usize);
+        Ok(Lengths { x, z, p, za })
+    }
+}
