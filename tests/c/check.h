@@ -1,0 +1,36 @@
+/* Failing tests say where and what, and end the program; answers that were seen are counted. */
+#ifndef CHECK_H
+#define CHECK_H
+
+#include <stdint.h>
+#include <stdio.h>
+#include <stdlib.h>
+
+#define CHECK(condition)                                                                      \
+    do {                                                                                      \
+        if (!(condition)) {                                                                   \
+            fprintf(stderr, "%s:%d: this does not hold: %s\n", __FILE__, __LINE__, #condition); \
+            exit(1);                                                                          \
+        }                                                                                     \
+    } while (0)
+
+#define CHECK_EQUAL(found, wanted)                                                                 \
+    do {                                                                                           \
+        uint64_t found_ = (found), wanted_ = (wanted);                                             \
+        if (found_ != wanted_) {                                                                   \
+            fprintf(stderr, "%s:%d: %s is %llu, should be %llu\n", __FILE__, __LINE__, #found,      \
+                    (unsigned long long)found_, (unsigned long long)wanted_);                      \
+            exit(1);                                                                               \
+        }                                                                                          \
+    } while (0)
+
+/* Exported functions, and how often each gave each answer. */
+enum function { EXECUTE, DECODE, ENCODE, CHECK_SETTINGS, LENGTHS, FUNCTIONS };
+
+extern unsigned seen[FUNCTIONS][9];
+
+void execute_tests(void);
+void word_tests(void);
+void settings_tests(void);
+
+#endif

@@ -1,0 +1,211 @@
+/* sme_execute, with every answer, at every vector length. What is expected is worked out here byte by byte. */
+#include "check.h"
+#include "guarded.h"
+#include "sme_move.h"
+
+#include <string.h>
+
+/* A machine's buffers, and copies that say what they should hold after the call. */
+typedef struct machine {
+    sme_settings settings;
+    uint64_t x[SME_X_COUNT];
+    guarded z, p, za, memory;
+    uint8_t *wanted_z, *wanted_za, *wanted_memory;
+} machine;
+
+static uint8_t *copy_of(const guarded *buffer)
+{
+    uint8_t *copy = malloc(buffer->length + 1);
+    CHECK(copy != NULL);
+    memcpy(copy, buffer->bytes, buffer->length);
+    return copy;
+}
+
+/* Level 3, both switches on, every predicate bit set, memory of so many bytes at address 1000 hex. */
+static machine machine_new(uint64_t vector_bytes, size_t memory_bytes)
+{
+    machine made;
+    made.settings = sme_settings_new(vector_bytes, 3);
+    made.settings = sme_settings_with_streaming(made.settings, true);
+    made.settings = sme_settings_with_za(made.settings, true);
+    made.settings = sme_settings_with_memory_address(made.settings, 0x1000);
+    for (size_t i = 0; i < SME_X_COUNT; i++) {
+        made.x[i] = 1000 + i;
+    }
+    made.z = guarded_new(SME_Z_BYTES(vector_bytes), 11);
+    made.p = guarded_new(SME_P_BYTES(vector_bytes), 0);
+    memset(made.p.bytes, 0xFF, made.p.length);
+    made.za = guarded_new(SME_ZA_BYTES(vector_bytes), 97);
+    made.memory = guarded_new(memory_bytes, 200);
+    made.wanted_z = copy_of(&made.z);
+    made.wanted_za = copy_of(&made.za);
+    made.wanted_memory = copy_of(&made.memory);
+    return made;
+}
+
+static sme_buffers lend(const machine *own, const guarded *x)
+{
+    sme_buffers buffers;
+    buffers.x = (const uint64_t *)(const void *)x->bytes;
+    buffers.x_count = SME_X_COUNT;
+    buffers.z = own->z.bytes;
+    buffers.z_bytes = own->z.length;
+    buffers.p = own->p.bytes;
+    buffers.p_bytes = own->p.length;
+    buffers.za = own->za.bytes;
+    buffers.za_bytes = own->za.length;
+    buffers.memory = own->memory.length == 0 ? NULL : own->memory.bytes;
+    buffers.memory_bytes = own->memory.length;
+    return buffers;
+}
+
+/* Calls with these buffers, and holds answer, address and every byte to what is wanted. */
+static void call(machine *own, uint32_t word, sme_buffers buffers, uint32_t wanted, uint64_t wanted_address)
+{
+    uint64_t address = UINT64_C(0x5A5A5A5A5A5A5A5A);
+    uint32_t answer = sme_settings_execute(own->settings, word, buffers, &address);
+    CHECK_EQUAL(answer, wanted);
+    CHECK_EQUAL(address, wanted_address);
+    CHECK(guarded_check(&own->z) && guarded_check(&own->za) && guarded_check(&own->memory));
+    CHECK(memcmp(own->z.bytes, own->wanted_z, own->z.length) == 0);
+    CHECK(memcmp(own->za.bytes, own->wanted_za, own->za.length) == 0);
+    CHECK(memcmp(own->memory.bytes, own->wanted_memory, own->memory.length) == 0);
+    seen[EXECUTE][answer]++;
+}
+
+static void machine_free(machine *own)
+{
+    guarded_free(&own->z);
+    guarded_free(&own->p);
+    guarded_free(&own->za);
+    guarded_free(&own->memory);
+    free(own->wanted_z);
+    free(own->wanted_za);
+    free(own->wanted_memory);
+}
+
+/* Executes with buffers of the right lengths; X and P can't be written. */
+static void expect(machine *own, uint32_t word, uint32_t wanted, uint64_t wanted_address)
+{
+    guarded x = guarded_new(sizeof own->x, 0);
+    memcpy(x.bytes, own->x, sizeof own->x);
+    guarded_read_only(&x);
+    guarded_read_only(&own->p);
+    call(own, word, lend(own, &x), wanted, wanted_address);
+    guarded_free(&x);
+    machine_free(own);
+}
+
+/* Each kind once: byte row 3, 4-byte column of tile 1, four and two vectors of the array, a store. */
+static void done_tests(uint64_t b)
+{
+    machine own = machine_new(b, 0);
+    own.x[12] = b + 3;
+    memcpy(own.wanted_za + 3 * b, own.z.bytes, b);
+    expect(&own, 0xC0000000, SME_DONE, 0);
+
+    own = machine_new(b, 0);
+    own.x[12] = 2;
+    for (size_t e = 0; e < b / 4; e++) {
+        uint8_t *element = own.wanted_za + (4 * e + 1) * b + 2 * 4;
+        memcpy(own.wanted_z + 7 * b + 4 * e, element, 4);
+        memset(element, 0, 4);
+    }
+    expect(&own, 0xC0828287, SME_DONE, 0);
+
+    own = machine_new(b, 0);
+    own.x[10] = b - 6;
+    for (size_t v = 0; v < 4; v++) {
+        memcpy(own.wanted_z + (28 + v) * b, own.za.bytes + (1 + v * (b / 4)) * b, b);
+    }
+    expect(&own, 0xC0064CFC, SME_DONE, 0);
+
+    own = machine_new(b, 0);
+    own.x[8] = b - 2;
+    for (size_t v = 0; v < 2; v++) {
+        memcpy(own.wanted_z + (10 + v) * b, own.za.bytes + (1 + v * (b / 2)) * b, b);
+        memset(own.wanted_za + (1 + v * (b / 2)) * b, 0, b);
+    }
+    expect(&own, 0xC0060A6A, SME_DONE, 0);
+
+    own = machine_new(b, b + 5);
+    own.x[1] = 0xF00;
+    own.x[2] = 0x105;
+    own.x[12] = 4;
+    memcpy(own.wanted_memory + 5, own.za.bytes + 4 * b, b);
+    expect(&own, 0xE0220020, SME_DONE, 0);
+}
+
+/* Answers 1 and 3 to 7. */
+static void refused_tests(uint64_t b)
+{
+    static const uint64_t levels[] = {4, 256, UINT64_C(1) << 32, UINT64_MAX};
+    for (size_t i = 0; i < sizeof levels / sizeof levels[0]; i++) {
+        machine high = machine_new(b, 8);
+        high.settings.level = levels[i];
+        expect(&high, 0xC0000000, SME_BAD_SETTINGS, 0);
+    }
+    machine own = machine_new(b, 8);
+    own.settings.vector_bytes = b + 1;
+    expect(&own, 0xC0000000, SME_BAD_SETTINGS, 0);
+
+    own = machine_new(b, 8);
+    expect(&own, 0xC0000010, SME_UNDECODABLE, 0);
+    own = machine_new(b, 8);
+    own.settings.level = 2;
+    expect(&own, 0xC0020200, SME_UNDECODABLE, 0);
+
+    own = machine_new(b, 8);
+    own.settings.streaming = own.settings.za_on = false;
+    expect(&own, 0xC0000000, SME_STREAMING_OFF, 0);
+    own = machine_new(b, 8);
+    own.settings.za_on = false;
+    expect(&own, 0xC0000000, SME_ZA_OFF, 0);
+
+    own = machine_new(b, 8);
+    own.x[31] = 0x1008;
+    expect(&own, 0xE03F03E0, SME_STACK_MISALIGNED, 0);
+
+    /* the last element's byte is the one behind memory; and with no memory at all */
+    own = machine_new(b, b - 1);
+    own.x[1] = 0x1000;
+    own.x[2] = 0;
+    expect(&own, 0xE0220020, SME_OUTSIDE_MEMORY, 0x1000 + b - 1);
+    own = machine_new(b, 0);
+    own.x[1] = UINT64_C(0) - 8;
+    own.x[2] = 4;
+    expect(&own, 0xE0220020, SME_OUTSIDE_MEMORY, UINT64_C(0xFFFFFFFFFFFFFFFC));
+}
+
+/* Answer 2: each length by one too short, and memory that ends above 2^64. */
+static void length_tests(uint64_t b)
+{
+    for (int wrong = 0; wrong < 5; wrong++) {
+        machine own = machine_new(b, 16);
+        guarded x = guarded_new(sizeof own.x, 0);
+        sme_buffers buffers = lend(&own, &x);
+        size_t *lengths[] = {&buffers.x_count, &buffers.z_bytes, &buffers.p_bytes, &buffers.za_bytes};
+        if (wrong < 4) {
+            (*lengths[wrong])--;
+        } else {
+            own.settings.memory_address = UINT64_C(0) - 15;
+        }
+        call(&own, 0xC0000000, buffers, SME_BAD_LENGTHS, 0);
+        guarded_free(&x);
+        machine_free(&own);
+    }
+    machine top = machine_new(b, 16);
+    top.settings.memory_address = UINT64_C(0) - 16;
+    top.x[12] = 0;
+    memcpy(top.wanted_za, top.z.bytes, b);
+    expect(&top, 0xC0000000, SME_DONE, 0);
+}
+
+void execute_tests(void)
+{
+    for (uint64_t b = SME_MIN_VECTOR_BYTES; b <= SME_MAX_VECTOR_BYTES; b *= 2) {
+        done_tests(b);
+        refused_tests(b);
+        length_tests(b);
+    }
+}

@@ -1,0 +1,30 @@
+/*
+ * Buffers of exact length between guard bytes, against a page that may not be touched at all: a write
+ * beside the buffer is found by guarded_check or ends the program, a read behind it ends the program.
+ */
+#ifndef GUARDED_H
+#define GUARDED_H
+
+#include <stdbool.h>
+#include <stddef.h>
+#include <stdint.h>
+
+typedef struct guarded {
+    uint8_t *pages;
+    size_t page_bytes;
+    uint8_t *bytes;
+    size_t length;
+} guarded;
+
+/* A buffer whose bytes differ from their neighbours and from those of other seeds. */
+guarded guarded_new(size_t length, uint8_t seed);
+
+/* From now on a write to the buffer ends the program. */
+void guarded_read_only(const guarded *buffer);
+
+/* Whether the guard bytes are as they were made. */
+bool guarded_check(const guarded *buffer);
+
+void guarded_free(guarded *buffer);
+
+#endif

@@ -1,0 +1,22 @@
+// The header in C++: its constructor, wrappers and linkage.
+#include "sme_move.h"
+
+#include <cstdio>
+#include <vector>
+
+int main()
+{
+    const sme_settings settings =
+        sme_settings_with_za(sme_settings_with_streaming(sme_settings_new(16, 3), true), true);
+    std::vector<uint64_t> x(SME_X_COUNT);
+    std::vector<uint8_t> z(SME_Z_BYTES(16), 7), p(SME_P_BYTES(16), 0xFF), za(SME_ZA_BYTES(16));
+    x[12] = 5;
+    const sme_buffers buffers = {x.data(), x.size(), z.data(), z.size(), p.data(),
+                                 p.size(), za.data(), za.size(), nullptr, 0};
+    uint64_t address = 1;
+    const uint32_t answer = sme_settings_execute(settings, 0xC0000000, buffers, &address);
+    const bool right = answer == SME_DONE && address == 0 && za[4 * 16 + 15] == 0 && za[5 * 16] == 7 &&
+                       za[5 * 16 + 15] == 7 && za[6 * 16] == 0;
+    std::printf("C++: answer %u, %s\n", answer, sme_answer_text(answer));
+    return right ? 0 : 1;
+}

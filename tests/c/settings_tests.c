@@ -1,0 +1,73 @@
+/* sme_check_settings and sme_lengths, for every setting near the limits. */
+#include "check.h"
+#include "guarded.h"
+#include "sme_move.h"
+
+#include <string.h>
+
+static bool allowed_length(uint64_t vector_bytes)
+{
+    return vector_bytes == 16 || vector_bytes == 32 || vector_bytes == 64 || vector_bytes == 128 ||
+           vector_bytes == 256;
+}
+
+static void check_one(uint64_t vector_bytes, uint64_t level)
+{
+    uint32_t answer = sme_check_settings(vector_bytes, level);
+    CHECK_EQUAL(answer, allowed_length(vector_bytes) && level <= 3 ? SME_DONE : SME_BAD_SETTINGS);
+    CHECK_EQUAL(sme_settings_check(sme_settings_new(vector_bytes, level)), answer);
+    seen[CHECK_SETTINGS][answer]++;
+}
+
+static void measure_one(uint64_t vector_bytes)
+{
+    guarded lengths = guarded_new(4 * sizeof(uint64_t), 9);
+    uint8_t before[4 * sizeof(uint64_t)];
+    memcpy(before, lengths.bytes, sizeof before);
+    uint32_t answer = sme_settings_lengths(sme_settings_new(vector_bytes, 0), (uint64_t *)(void *)lengths.bytes);
+    CHECK_EQUAL(answer, allowed_length(vector_bytes) ? SME_DONE : SME_BAD_SETTINGS);
+    CHECK(guarded_check(&lengths));
+    if (answer == SME_DONE) {
+        uint64_t four[4];
+        memcpy(four, lengths.bytes, sizeof four);
+        CHECK_EQUAL(four[0], SME_X_COUNT);
+        CHECK_EQUAL(four[1], SME_Z_BYTES(vector_bytes));
+        CHECK_EQUAL(four[2], SME_P_BYTES(vector_bytes));
+        CHECK_EQUAL(four[3], SME_ZA_BYTES(vector_bytes));
+    } else {
+        CHECK(memcmp(before, lengths.bytes, sizeof before) == 0);
+    }
+    seen[LENGTHS][answer]++;
+    guarded_free(&lengths);
+}
+
+void settings_tests(void)
+{
+    static const uint64_t large[] = {4, 255, 256, 259, UINT64_C(1) << 32, (UINT64_C(1) << 32) + 16, UINT64_MAX};
+    for (uint64_t vector_bytes = 0; vector_bytes <= 520; vector_bytes++) {
+        for (uint64_t level = 0; level <= 5; level++) {
+            check_one(vector_bytes, level);
+        }
+        for (size_t i = 0; i < sizeof large / sizeof large[0]; i++) {
+            check_one(vector_bytes, large[i]);
+        }
+        measure_one(vector_bytes);
+    }
+    for (size_t i = 0; i < sizeof large / sizeof large[0]; i++) {
+        check_one(large[i], 3);
+        measure_one(large[i]);
+    }
+    /* 01's literal numbers for 32-byte vectors, so that the macros are not their own judge */
+    CHECK_EQUAL(SME_X_COUNT, 32);
+    CHECK_EQUAL(SME_Z_BYTES(32), 1024);
+    CHECK_EQUAL(SME_P_BYTES(32), 64);
+    CHECK_EQUAL(SME_ZA_BYTES(32), 1024);
+    sme_settings settings = sme_settings_new(64, 2);
+    CHECK(settings.vector_bytes == 64 && settings.level == 2);
+    CHECK(!settings.streaming && !settings.za_on && settings.memory_address == 0);
+    settings = sme_settings_with_streaming(settings, true);
+    CHECK(settings.streaming && !settings.za_on && settings.memory_address == 0);
+    settings = sme_settings_with_za(settings, true);
+    settings = sme_settings_with_memory_address(settings, 77);
+    CHECK(settings.streaming && settings.za_on && settings.memory_address == 77);
+}

@@ -1,0 +1,100 @@
+/* sme_decode and sme_encode, by words of the worked examples of document 01. */
+#include "check.h"
+#include "guarded.h"
+#include "sme_move.h"
+
+#include <string.h>
+
+typedef struct known {
+    uint32_t word;
+    /* the lowest level that has it */
+    uint64_t level;
+    uint8_t fields[SME_FIELD_COUNT];
+} known;
+
+static const known known_words[] = {
+    {0xC0000000, 1, {SME_KIND_MOVE_TO_TILE, 1, 0, 0, 0, 12, 0, 0, 0, 0, 1}},
+    {0xC080ACA9, 1, {SME_KIND_MOVE_TO_TILE, 4, 1, 2, 1, 13, 3, 5, 0, 0, 1}},
+    {0xC0C1000F, 1, {SME_KIND_MOVE_TO_TILE, 16, 0, 15, 0, 12, 0, 0, 0, 0, 1}},
+    {0xC0020200, 3, {SME_KIND_MOVE_AND_ZERO_FROM_TILE, 1, 0, 0, 0, 12, 0, 0, 0, 0, 1}},
+    {0xC0C2E3BF, 3, {SME_KIND_MOVE_AND_ZERO_FROM_TILE, 8, 1, 6, 1, 15, 0, 31, 0, 0, 1}},
+    {0xC0064CFC, 2, {SME_KIND_MOVE_FROM_ARRAY, 0, 0, 0, 7, 10, 0, 28, 0, 0, 4}},
+    {0xC0060A6A, 3, {SME_KIND_MOVE_AND_ZERO_FROM_ARRAY, 0, 0, 0, 3, 8, 0, 10, 0, 0, 2}},
+    {0xE0220020, 1, {SME_KIND_STORE, 1, 0, 0, 0, 12, 0, 0, 1, 2, 0}},
+    {0xE03F03E0, 1, {SME_KIND_STORE, 1, 0, 0, 0, 12, 0, 0, 31, 31, 0}},
+};
+
+static void decode_one(uint32_t word, uint64_t level, uint32_t wanted, const uint8_t *wanted_fields)
+{
+    guarded fields = guarded_new(SME_FIELD_COUNT, 3);
+    uint8_t before[SME_FIELD_COUNT];
+    memcpy(before, fields.bytes, sizeof before);
+    uint32_t answer = sme_settings_decode(sme_settings_new(16, level), word, fields.bytes);
+    CHECK_EQUAL(answer, wanted);
+    CHECK(guarded_check(&fields));
+    CHECK(memcmp(fields.bytes, wanted == SME_DONE ? wanted_fields : before, sizeof before) == 0);
+    seen[DECODE][answer]++;
+    guarded_free(&fields);
+}
+
+static void encode_one(const uint8_t *numbers, uint32_t wanted, uint32_t wanted_word)
+{
+    guarded fields = guarded_new(SME_FIELD_COUNT, 3);
+    guarded word = guarded_new(sizeof(uint32_t), 5);
+    memcpy(fields.bytes, numbers, SME_FIELD_COUNT);
+    guarded_read_only(&fields);
+    uint32_t answer = sme_encode(fields.bytes, (uint32_t *)(void *)word.bytes);
+    uint32_t written;
+    memcpy(&written, word.bytes, sizeof written);
+    CHECK_EQUAL(answer, wanted);
+    CHECK_EQUAL(written, wanted_word);
+    CHECK(guarded_check(&word));
+    seen[ENCODE][answer]++;
+    guarded_free(&fields);
+    guarded_free(&word);
+}
+
+/* A known word's numbers with one replaced. */
+static void refuse_one(size_t number, enum sme_field field, uint8_t value)
+{
+    uint8_t fields[SME_FIELD_COUNT];
+    memcpy(fields, known_words[number].fields, sizeof fields);
+    fields[field] = value;
+    encode_one(fields, SME_OUT_OF_RANGE, 0);
+}
+
+static void known_one(const known *one)
+{
+    for (uint64_t level = 0; level <= 3; level++) {
+        decode_one(one->word, level, level < one->level ? SME_UNDECODABLE : SME_DONE, one->fields);
+    }
+    decode_one(one->word, 4, SME_BAD_SETTINGS, NULL);
+    decode_one(one->word, 256, SME_BAD_SETTINGS, NULL);
+    decode_one(one->word, (UINT64_C(1) << 32) + 3, SME_BAD_SETTINGS, NULL);
+    decode_one(one->word, UINT64_MAX, SME_BAD_SETTINGS, NULL);
+    encode_one(one->fields, SME_DONE, one->word);
+}
+
+void word_tests(void)
+{
+    for (size_t i = 0; i < sizeof known_words / sizeof known_words[0]; i++) {
+        known_one(&known_words[i]);
+        refuse_one(i, SME_FIELD_KIND, 0);
+        refuse_one(i, SME_FIELD_KIND, 8);
+        refuse_one(i, SME_FIELD_DIRECTION, 2);
+        refuse_one(i, SME_FIELD_ELEMENT_BYTES, 3);
+        refuse_one(i, SME_FIELD_VECTOR_REGISTERS, 3);
+    }
+    for (uint64_t level = 0; level <= 3; level++) {
+        decode_one(0xC0000010, level, SME_UNDECODABLE, NULL);
+        decode_one(0xC0410000, level, SME_UNDECODABLE, NULL);
+        decode_one(0, level, SME_UNDECODABLE, NULL);
+    }
+    /* a byte move with offset 16, a byte tile 1, four registers from 2; a field that the kind has not */
+    refuse_one(0, SME_FIELD_OFFSET, 16);
+    refuse_one(0, SME_FIELD_TILE, 1);
+    refuse_one(5, SME_FIELD_FIRST_VECTOR_REGISTER, 2);
+    refuse_one(0, SME_FIELD_BASE_REGISTER, 1);
+    refuse_one(5, SME_FIELD_PREDICATE, 1);
+    refuse_one(7, SME_FIELD_FIRST_VECTOR_REGISTER, 1);
+}

@@ -1,0 +1,37 @@
+#!/usr/bin/env bash
+# Takes the hosts in C and in Rust out of the README, builds and runs them with the commands that stand
+# there, and holds what they print to what stands there.
+# Build first: rt staticlib sme_move
+set -euo pipefail
+cd "$(dirname "$0")/.."
+root=$PWD
+out=target/hosts
+rm -rf "$out"
+mkdir -p "$out"
+
+# block LANGUAGE N: the N-th fenced block of that language
+block() {
+    awk -v language="$1" -v wanted="$2" '
+        inside && $0 == "```" { inside = 0 }
+        inside && count == wanted { print; found = 1 }
+        !inside && $0 == "```" language { inside = 1; count++ }
+        END { exit !found }' README.md
+}
+
+# The commands are to be given in the repository's folder: here a folder that looks like it.
+ln -s "$root/include" "$root/rust" "$out/"
+mkdir "$out/target"
+ln -s "$root/target/staticlib" "$out/target/"
+
+block c 1 >"$out/host.c"
+block rust 1 >"$out/host.rs"
+for host in 1 2; do
+    block sh "$host" >"$out/commands"
+    block text "$host" >"$out/expected"
+    (cd "$out" && bash -euo pipefail commands) >"$out/printed"
+    diff "$out/expected" "$out/printed" || {
+        echo "hosts.sh: host $host of the README prints something else than stands there" >&2
+        exit 1
+    }
+done
+echo "both hosts of the README print what stands there"
