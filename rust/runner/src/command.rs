@@ -1,0 +1,96 @@
+//! What the program does, and its exit status.
+
+use crate::arguments::{self, Command, Task};
+use crate::input::Source;
+use crate::paint::{Paint, View};
+use crate::script::{self, Script};
+use crate::{decoding, map, map_svg, run};
+use std::ffi::{OsStr, OsString};
+use std::fs;
+use std::io::{self, BufWriter, Write};
+use std::process::ExitCode;
+
+const HELP: &str = include_str!("help.txt");
+
+/// Why the program ends without having done its task.
+enum Failure {
+    /// The input is wrong; nothing was run.
+    Input(String),
+    /// Output could not be written.
+    Output(String),
+    /// The reader of the output has left.
+    Pipe,
+}
+
+impl From<io::Error> for Failure {
+    fn from(error: io::Error) -> Failure {
+        match error.kind() {
+            io::ErrorKind::BrokenPipe => Failure::Pipe,
+            _ => Failure::Output(format!("runner: output cannot be written: {error}")),
+        }
+    }
+}
+
+/// Does what the command line asks. The status is 0 if it was done, 1 if output could not be written and
+/// 2 if the input is wrong.
+pub fn main(arguments: impl Iterator<Item = OsString>) -> ExitCode {
+    let command = arguments::parse(arguments)
+        .map_err(|message| Failure::Input(format!("runner: {message} (--help says more)")));
+    let (status, message) = match command.and_then(perform) {
+        Ok(()) => return ExitCode::SUCCESS,
+        Err(Failure::Input(message)) => (2, message),
+        Err(Failure::Output(message)) => (1, message),
+        Err(Failure::Pipe) => return ExitCode::from(1),
+    };
+    // Where standard error is closed as well, the status has to do.
+    let _ = writeln!(io::stderr(), "{message}");
+    ExitCode::from(status)
+}
+
+fn perform(command: Command) -> Result<(), Failure> {
+    let view = View {
+        paint: Paint::chosen(command.color),
+        width: command.width,
+        all: command.all,
+    };
+    let mut out = BufWriter::new(io::stdout().lock());
+    match command.task {
+        Task::Help => out.write_all(HELP.as_bytes())?,
+        Task::Run { source } => run::run(&mut out, &view, &script_of(&source)?)?,
+        Task::Decode { level, words } => {
+            for word in words {
+                decoding::print(&mut out, word, level, view.paint)?;
+            }
+        }
+        Task::Map { vector_bytes } => map::print(&mut out, vector_bytes, view.paint)?,
+        Task::Drawing { vector_bytes, file } => draw(&mut out, vector_bytes, &file)?,
+    }
+    Ok(out.flush()?)
+}
+
+fn script_of(source: &Source) -> Result<Script, Failure> {
+    let text = source.text();
+    text.and_then(|text| script::parse(&text))
+        .map_err(|fault| Failure::Input(fault.in_file(&source.name())))
+}
+
+fn draw(out: &mut impl Write, vector_bytes: usize, file: &OsStr) -> Result<(), Failure> {
+    let svg = map_svg::svg(vector_bytes);
+    if file == "-" {
+        return Ok(out.write_all(svg.as_bytes())?);
+    }
+    fs::write(file, svg).map_err(|error| {
+        let name = file.to_string_lossy();
+        Failure::Output(format!("{name}: cannot be written: {error}"))
+    })
+}
+
+#[cfg(test)]
+mod tests {
+    use super::*;
+
+    #[test]
+    fn the_help_is_narrow() {
+        assert!(HELP.lines().all(|line| line.chars().count() < 80));
+    }
+}

@@ -1,0 +1,65 @@
+//! Decoding alone.
+
+use crate::paint::{Paint, Style};
+use crate::report::{decoded, item};
+use crate::wording;
+use sme_move::{decode_fields, encode_fields, Refusal};
+use std::io::{self, Write};
+
+/// Prints what a word is at a level, and the word that its numbers encode to.
+pub fn print(out: &mut impl Write, word: u32, level: u64, paint: Paint) -> io::Result<()> {
+    writeln!(
+        out,
+        "{}",
+        paint.text(Style::Heading, &format!("{word:08X}"))
+    )?;
+    match decode_fields(word, level) {
+        Ok(fields) => {
+            decoded(out, fields)?;
+            let back = match encode_fields(fields) {
+                Ok(back) if back == word => format!("{back:08X}, the same word"),
+                Ok(back) => format!("{back:08X}, another word"),
+                Err(refusal) => wording::answer(Err(refusal)),
+            };
+            item(out, "encodes", &[back])
+        }
+        Err(refusal) => {
+            let reason = match refusal {
+                Refusal::BadSettings => format!("1: there is no level {level}"),
+                _ => format!("{}: no instruction of level {level}", refusal.number()),
+            };
+            item(out, "refused", &[paint.text(Style::Refused, &reason)])
+        }
+    }
+}
+
+#[cfg(test)]
+mod tests {
+    use super::*;
+
+    fn printed(word: u32, level: u64) -> String {
+        let mut out = Vec::new();
+        print(&mut out, word, level, Paint { colours: false }).expect("memory can be written");
+        String::from_utf8(out).expect("plain text")
+    }
+
+    #[test]
+    fn a_decoded_word_encodes_back() {
+        let text = printed(0xC080ACA9, 1);
+        assert!(text.starts_with("C080ACA9\n  meaning  move to tile: 4-byte elements, tile 2"));
+        assert!(text.contains("index register 13, predicate 3, first vector register 5"));
+        assert!(text.ends_with("  encodes  C080ACA9, the same word\n"));
+    }
+
+    #[test]
+    fn refusals_are_said() {
+        assert_eq!(
+            printed(0xC0020200, 2),
+            "C0020200\n  refused  3: no instruction of level 2\n"
+        );
+        assert_eq!(
+            printed(0xC0020200, 4),
+            "C0020200\n  refused  1: there is no level 4\n"
+        );
+    }
+}

@@ -1,0 +1,79 @@
+//! Where a script comes from, and its text.
+
+use crate::script::Fault;
+use std::ffi::OsString;
+use std::fs::File;
+use std::io::{self, Read};
+
+/// No kernel is this long; a limit keeps a wrong file name from filling the host's memory.
+const MAX_BYTES: u64 = 16 << 20;
+
+pub enum Source {
+    /// The example that the program carries.
+    Example,
+    StandardInput,
+    File(OsString),
+}
+
+impl Source {
+    /// The name in messages.
+    pub fn name(&self) -> String {
+        match self {
+            Source::Example => "built-in example".to_string(),
+            Source::StandardInput => "standard input".to_string(),
+            Source::File(name) => name.to_string_lossy().into_owned(),
+        }
+    }
+
+    pub fn text(&self) -> Result<String, Fault> {
+        let bytes = match self {
+            Source::Example => return Ok(include_str!("../example.txt").to_string()),
+            Source::StandardInput => bounded(io::stdin().lock()),
+            Source::File(name) => File::open(name).and_then(bounded),
+        };
+        text_of(bytes.map_err(|error| Fault::of_file(format!("cannot be read: {error}")))?)
+    }
+}
+
+/// At most one byte above the limit, which then shows that there was more.
+fn bounded(reader: impl Read) -> io::Result<Vec<u8>> {
+    let mut bytes = Vec::new();
+    reader.take(MAX_BYTES + 1).read_to_end(&mut bytes)?;
+    Ok(bytes)
+}
+
+fn text_of(bytes: Vec<u8>) -> Result<String, Fault> {
+    if bytes.is_empty() {
+        return Err(Fault::of_file("the file is empty"));
+    }
+    if bytes.len() as u64 > MAX_BYTES {
+        let limit = MAX_BYTES >> 20;
+        return Err(Fault::of_file(format!("the file has more than {limit} MB")));
+    }
+    String::from_utf8(bytes).map_err(|error| {
+        let good = &error.as_bytes()[..error.utf8_error().valid_up_to()];
+        let line = 1 + good.iter().filter(|&&byte| byte == b'\n').count();
+        Fault::of_line(line, "the line is not UTF-8 text")
+    })
+}
+
+#[cfg(test)]
+mod tests {
+    use super::*;
+
+    fn message(bytes: &[u8]) -> String {
+        text_of(bytes.to_vec()).unwrap_err().in_file("k.txt")
+    }
+
+    #[test]
+    fn text_is_utf8_and_neither_empty_nor_huge() {
+        assert_eq!(text_of(b"word\n".to_vec()).ok().as_deref(), Some("word\n"));
+        assert_eq!(message(b""), "k.txt: the file is empty");
+        assert_eq!(
+            message(b"a\nb\n\xFFc"),
+            "k.txt:3: the line is not UTF-8 text"
+        );
+        let huge = vec![b'#'; MAX_BYTES as usize + 1];
+        assert_eq!(message(&huge), "k.txt: the file has more than 16 MB");
+    }
+}

@@ -1,0 +1,25 @@
+//! Runs kernels of instruction words on the proved move unit, and shows what each word is, what the
+//! unit answers and which bytes it changed.
+//!
+//! The unit alone decodes and executes; what is here reads scripts and draws. Nothing is read or
+//! printed in assembler's words: an instruction is a word of eight hexadecimal digits, a register a
+//! number, a tile its element size and its number.
+
+#![forbid(unsafe_code)]
+
+mod arguments;
+pub mod command;
+mod decoding;
+mod digits;
+mod grid;
+mod input;
+mod machine;
+mod map;
+mod map_svg;
+mod paint;
+mod report;
+mod run;
+mod script;
+mod taken;
+mod tile;
+mod wording;

@@ -1,0 +1,185 @@
+//! What is printed for one word.
+
+mod grids;
+
+use crate::grid::Grid;
+use crate::machine::{Execution, Machine, STORE};
+use crate::paint::{Style, View};
+use crate::taken::{active_elements, index_value, modulus, Taken};
+use crate::wording::{self, counted, direction, list, ranges};
+use sme_move::Fields;
+use std::io::{self, Write};
+
+/// Where a word stands: its number among the words, from 1, and its line.
+pub struct Position {
+    pub number: usize,
+    pub line: usize,
+}
+
+/// Prints everything about a word that was just executed on the machine.
+pub fn word(
+    out: &mut impl Write,
+    view: &View,
+    position: Position,
+    execution: &Execution,
+    machine: &Machine,
+) -> io::Result<()> {
+    let title = format!("word {}: {:08X}", position.number, execution.word);
+    let title = view.paint.text(Style::Heading, &title);
+    writeln!(out, "{title} (line {})", position.line)?;
+    if let Ok(fields) = execution.fields {
+        decoded(out, fields)?;
+        taking(out, fields, machine)?;
+    }
+    answer(out, view, execution)?;
+    if let (Ok(fields), Ok(())) = (execution.fields, execution.answer) {
+        item(out, "changed", &[changed(execution, machine)])?;
+        for grid in grids::of(fields, execution, machine) {
+            writeln!(out)?;
+            draw(out, view, &grid)?;
+        }
+    }
+    writeln!(out)
+}
+
+/// Prints the vector registers that words of the script changed, so that one sees them together.
+pub fn ending(
+    out: &mut impl Write,
+    view: &View,
+    registers: &[usize],
+    machine: &Machine,
+) -> io::Result<()> {
+    if registers.is_empty() {
+        return Ok(());
+    }
+    draw(out, view, &grids::of_final_registers(machine, registers))?;
+    writeln!(out)
+}
+
+fn draw(out: &mut impl Write, view: &View, grid: &Grid) -> io::Result<()> {
+    for line in grid.lines(view) {
+        writeln!(out, "{line}")?;
+    }
+    Ok(())
+}
+
+/// What a word is, and its eleven numbers.
+pub fn decoded(out: &mut impl Write, fields: Fields) -> io::Result<()> {
+    item(out, "meaning", &[wording::meaning(fields)])?;
+    item(out, "fields", &wording::fields(fields))
+}
+
+/// Lines under a name.
+pub fn item(out: &mut impl Write, name: &str, lines: &[String]) -> io::Result<()> {
+    for (i, line) in lines.iter().enumerate() {
+        let name = if i == 0 { name } else { "" };
+        writeln!(out, "  {name:<8} {line}")?;
+    }
+    Ok(())
+}
+
+fn taking(out: &mut impl Write, fields: Fields, machine: &Machine) -> io::Result<()> {
+    let registers = &machine.state.x;
+    let taken = Taken::by(fields, machine.vector_bytes(), registers);
+    item(out, "takes", &[what_is_taken(&taken), why(fields, machine)])?;
+    if let (1 | STORE, Taken::Slice { tile, .. }) = (fields.kind, taken) {
+        let length = machine.vector_bytes() / 8;
+        let predicate = &machine.state.p[usize::from(fields.predicate) * length..][..length];
+        let active = active(&active_elements(tile, predicate), tile.slices());
+        item(out, "active", &[active])?;
+    }
+    if fields.kind == STORE {
+        let offset = match fields.offset_register {
+            31 => 0,
+            register => registers[usize::from(register)],
+        };
+        let address = registers[usize::from(fields.base)].wrapping_add(offset);
+        let sum = wording::store_address(fields);
+        item(
+            out,
+            "address",
+            &[format!("{address:016X} for element 0: {sum}")],
+        )?;
+    }
+    Ok(())
+}
+
+fn what_is_taken(taken: &Taken) -> String {
+    match taken {
+        Taken::Slice {
+            tile,
+            vertical,
+            slice,
+        } => {
+            let (direction, last) = (direction(*vertical), tile.slices() - 1);
+            format!(
+                "{direction} slice {slice} (of 0 to {last}) of {}",
+                tile.name()
+            )
+        }
+        Taken::Vectors(vectors) => {
+            let vectors: Vec<String> = vectors.iter().map(usize::to_string).collect();
+            format!("vectors {} of the array", list(&vectors))
+        }
+    }
+}
+
+/// How the slice number, or the first vector number, comes about.
+fn why(fields: Fields, machine: &Machine) -> String {
+    let (index, offset) = (fields.index, fields.offset);
+    let value = index_value(fields, &machine.state.x);
+    let modulus = modulus(fields, machine.vector_bytes());
+    let sum = format!("{value:08X} in the low 32 bits of register {index} + offset {offset}");
+    match fields.element_bytes {
+        0 => format!("({sum}) modulo {modulus}, then every {modulus}"),
+        _ => format!("({sum}) modulo {modulus}"),
+    }
+}
+
+fn active(elements: &[usize], all: usize) -> String {
+    let all = counted(all, "element");
+    format!("{} of {all}: {}", elements.len(), ranges(elements))
+}
+
+fn answer(out: &mut impl Write, view: &View, execution: &Execution) -> io::Result<()> {
+    let answer = wording::answer(execution.answer);
+    match execution.answer {
+        Ok(()) => item(out, "answer", &[answer]),
+        Err(_) => {
+            let answer = view.paint.text(Style::Refused, &answer);
+            item(out, "answer", &[answer])?;
+            item(
+                out,
+                "changed",
+                &["nothing: the word was refused".to_string()],
+            )
+        }
+    }
+}
+
+/// How many bytes changed, and where.
+fn changed(execution: &Execution, machine: &Machine) -> String {
+    let before = &execution.state_before;
+    let parts: Vec<String> = [
+        ("the array", count(&before.za, &machine.state.za)),
+        ("vector registers", count(&before.z, &machine.state.z)),
+        ("memory", count(&execution.memory_before, &machine.memory)),
+    ]
+    .into_iter()
+    .filter(|&(_, bytes)| bytes > 0)
+    .map(|(place, bytes)| format!("{} of {place}", counted(bytes, "byte")))
+    .collect();
+    match parts.as_slice() {
+        [] => "nothing".to_string(),
+        parts => list(parts),
+    }
+}
+
+/// How many bytes differ; none in what was not kept.
+fn count(before: &[u8], after: &[u8]) -> usize {
+    before
+        .iter()
+        .zip(after)
+        .filter(|(old, new)| old != new)
+        .count()
+}

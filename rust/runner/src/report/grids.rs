@@ -1,0 +1,171 @@
+//! The grids that show what a word did.
+
+use crate::grid::{Grid, Row};
+use crate::machine::{Execution, Machine};
+use crate::taken::Taken;
+use crate::tile::Tile;
+use sme_move::Fields;
+
+/// How many bytes stand together where there are no elements.
+const GROUP: usize = 4;
+
+/// How many bytes of memory are a row.
+const MEMORY_ROW: usize = 16;
+
+/// The array's part that the word takes, and the vector registers and the memory that changed.
+pub fn of<'a>(
+    fields: Fields,
+    execution: &'a Execution,
+    machine: &'a Machine,
+) -> impl Iterator<Item = Grid<'a>> {
+    let vector_bytes = machine.vector_bytes();
+    let array = match Taken::by(fields, vector_bytes, &machine.state.x) {
+        Taken::Slice {
+            tile,
+            vertical,
+            slice,
+        } => of_tile(execution, machine, tile, vertical, slice),
+        Taken::Vectors(vectors) => of_vectors(execution, machine, &vectors),
+    };
+    let registers = of_registers(fields, execution, machine);
+    let memory = of_memory(execution, machine);
+    let changes = [registers, memory].into_iter();
+    [array]
+        .into_iter()
+        .chain(changes.filter(|grid| !grid.rows.is_empty()))
+}
+
+/// Vector `number` of a buffer of vectors.
+fn vector(buffer: &[u8], number: usize, vector_bytes: usize) -> &[u8] {
+    &buffer[number * vector_bytes..][..vector_bytes]
+}
+
+/// A row that is a vector of the array, before and after.
+fn array_row<'a>(
+    execution: &'a Execution,
+    machine: &'a Machine,
+    number: usize,
+    labels: Vec<String>,
+    taken: bool,
+) -> Row<'a> {
+    let vector_bytes = machine.vector_bytes();
+    Row {
+        labels,
+        taken,
+        before: vector(&execution.state_before.za, number, vector_bytes),
+        after: vector(&machine.state.za, number, vector_bytes),
+    }
+}
+
+fn of_tile<'a>(
+    execution: &'a Execution,
+    machine: &'a Machine,
+    tile: Tile,
+    vertical: bool,
+    slice: usize,
+) -> Grid<'a> {
+    let row = |number: usize| {
+        let vector = tile.vector(number);
+        let labels = vec![number.to_string(), vector.to_string()];
+        array_row(
+            execution,
+            machine,
+            vector,
+            labels,
+            !vertical && number == slice,
+        )
+    };
+    Grid {
+        title: tile.name(),
+        headings: vec!["slice", "vector"],
+        column: ("column", 1),
+        group: tile.element_bytes,
+        rows: (0..tile.slices()).map(row).collect(),
+        taken_group: vertical.then_some(slice),
+    }
+}
+
+fn of_vectors<'a>(execution: &'a Execution, machine: &'a Machine, vectors: &[usize]) -> Grid<'a> {
+    let row =
+        |&number: &usize| array_row(execution, machine, number, vec![number.to_string()], true);
+    Grid {
+        title: "vectors of the array".to_string(),
+        headings: vec!["vector"],
+        column: ("byte", GROUP),
+        group: GROUP,
+        rows: vectors.iter().map(row).collect(),
+        taken_group: None,
+    }
+}
+
+fn of_registers<'a>(fields: Fields, execution: &'a Execution, machine: &'a Machine) -> Grid<'a> {
+    let vector_bytes = machine.vector_bytes();
+    let row = |number: usize| Row {
+        labels: vec![number.to_string()],
+        taken: false,
+        before: vector(&execution.state_before.z, number, vector_bytes),
+        after: vector(&machine.state.z, number, vector_bytes),
+    };
+    let (column, group) = match usize::from(fields.element_bytes) {
+        0 => (("byte", GROUP), GROUP),
+        element_bytes => (("element", 1), element_bytes),
+    };
+    Grid {
+        title: "vector registers that changed".to_string(),
+        headings: vec!["register"],
+        column,
+        group,
+        rows: (0..32)
+            .map(row)
+            .filter(|row| row.before != row.after)
+            .collect(),
+        taken_group: None,
+    }
+}
+
+fn of_memory<'a>(execution: &'a Execution, machine: &'a Machine) -> Grid<'a> {
+    let start = machine.settings.memory_address;
+    let before = execution.memory_before.chunks(MEMORY_ROW);
+    let rows = before.zip(machine.memory.chunks(MEMORY_ROW)).enumerate();
+    let row = |(number, (before, after)): (usize, (&'a [u8], &'a [u8]))| Row {
+        labels: vec![format!(
+            "{:016X}",
+            start.wrapping_add((number * MEMORY_ROW) as u64)
+        )],
+        taken: false,
+        before,
+        after,
+    };
+    Grid {
+        title: "memory that changed".to_string(),
+        headings: vec!["address"],
+        column: ("byte", GROUP),
+        group: GROUP,
+        rows: rows
+            .map(row)
+            .filter(|row| row.before != row.after)
+            .collect(),
+        taken_group: None,
+    }
+}
+
+/// Vector registers at the end of a script.
+pub fn of_final_registers<'a>(machine: &'a Machine, numbers: &[usize]) -> Grid<'a> {
+    let row = |&number: &usize| {
+        let bytes = vector(&machine.state.z, number, machine.vector_bytes());
+        Row {
+            labels: vec![number.to_string()],
+            taken: false,
+            before: bytes,
+            after: bytes,
+        }
+    };
+    Grid {
+        title: "vector registers that words changed, at the end".to_string(),
+        headings: vec!["register"],
+        column: ("byte", GROUP),
+        group: GROUP,
+        rows: numbers.iter().map(row).collect(),
+        taken_group: None,
+    }
+}

@@ -1,0 +1,103 @@
+//! A script: settings, first contents, and words in order, all checked before anything is run.
+
+mod draft;
+mod parser;
+
+use sme_move::Settings;
+
+pub use draft::vector_bytes;
+pub use parser::parse;
+
+/// A script without faults.
+#[derive(Debug)]
+pub struct Script {
+    pub settings: Settings,
+    pub memory: Vec<u8>,
+    pub steps: Vec<Step>,
+}
+
+#[derive(Debug)]
+pub struct Step {
+    pub line: usize,
+    pub action: Action,
+}
+
+#[derive(Debug, PartialEq)]
+pub enum Action {
+    Register {
+        number: usize,
+        value: u64,
+    },
+    Content {
+        place: Place,
+        number: usize,
+        bytes: Vec<u8>,
+    },
+    Word(u32),
+}
+
+/// What has numbered vectors or predicates of bytes.
+#[derive(Clone, Copy, Debug, PartialEq)]
+pub enum Place {
+    Vector,
+    Predicate,
+    Array,
+}
+
+impl Place {
+    /// What one of its members is called.
+    pub fn member(self) -> &'static str {
+        match self {
+            Place::Vector => "vector register",
+            Place::Predicate => "predicate",
+            Place::Array => "vector of the array",
+        }
+    }
+
+    pub fn members(self, vector_bytes: usize) -> usize {
+        match self {
+            Place::Vector => 32,
+            Place::Predicate => 16,
+            Place::Array => vector_bytes,
+        }
+    }
+
+    pub fn member_bytes(self, vector_bytes: usize) -> usize {
+        match self {
+            Place::Predicate => vector_bytes / 8,
+            Place::Vector | Place::Array => vector_bytes,
+        }
+    }
+}
+
+/// Why a script is not run.
+#[derive(Debug)]
+pub struct Fault {
+    line: Option<usize>,
+    message: String,
+}
+
+impl Fault {
+    /// A fault of the whole file, where no line can be named.
+    pub fn of_file(message: impl Into<String>) -> Fault {
+        Fault {
+            line: None,
+            message: message.into(),
+        }
+    }
+
+    pub fn of_line(line: usize, message: impl Into<String>) -> Fault {
+        Fault {
+            line: Some(line),
+            message: message.into(),
+        }
+    }
+
+    /// The message as it is printed.
+    pub fn in_file(&self, name: &str) -> String {
+        match self.line {
+            Some(line) => format!("{name}:{line}: {}", self.message),
+            None => format!("{name}: {}", self.message),
+        }
+    }
+}

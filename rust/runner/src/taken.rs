@@ -1,0 +1,104 @@
+//! What of the array a word takes, and which elements are active.
+
+use crate::tile::Tile;
+use sme_move::Fields;
+
+/// The part of the array that a word takes.
+#[derive(Debug, PartialEq)]
+pub enum Taken {
+    Slice {
+        tile: Tile,
+        vertical: bool,
+        slice: usize,
+    },
+    Vectors(Vec<usize>),
+}
+
+/// The low 32 bits of the index register, which alone count.
+pub fn index_value(fields: Fields, registers: &[u64]) -> u32 {
+    registers[usize::from(fields.index)] as u32
+}
+
+/// What a slice or vector number is taken modulo.
+pub fn modulus(fields: Fields, vector_bytes: usize) -> usize {
+    let parts = match fields.element_bytes {
+        0 => fields.registers,
+        element_bytes => element_bytes,
+    };
+    vector_bytes / usize::from(parts)
+}
+
+impl Taken {
+    pub fn by(fields: Fields, vector_bytes: usize, registers: &[u64]) -> Taken {
+        let modulus = modulus(fields, vector_bytes);
+        let sum = u64::from(index_value(fields, registers)) + u64::from(fields.offset);
+        let first = (sum % modulus as u64) as usize;
+        if fields.element_bytes == 0 {
+            let group = 0..usize::from(fields.registers);
+            return Taken::Vectors(group.map(|i| first + i * modulus).collect());
+        }
+        Taken::Slice {
+            tile: Tile {
+                element_bytes: usize::from(fields.element_bytes),
+                number: usize::from(fields.tile),
+                vector_bytes,
+            },
+            vertical: fields.direction == 1,
+            slice: first,
+        }
+    }
+}
+
+/// The elements of a slice that are active under a predicate: those whose lowest bit is 1.
+pub fn active_elements(tile: Tile, predicate: &[u8]) -> Vec<usize> {
+    let active = |element: &usize| {
+        let bit = element * tile.element_bytes;
+        predicate[bit / 8] >> (bit % 8) & 1 == 1
+    };
+    (0..tile.slices()).filter(active).collect()
+}
+
+#[cfg(test)]
+mod tests {
+    use super::*;
+    use sme_move::decode_fields;
+
+    fn taken(word: u32, vector_bytes: usize, index: u64) -> Taken {
+        let fields = decode_fields(word, 3).expect("the word decodes");
+        let mut registers = [0; 32];
+        registers[usize::from(fields.index)] = index;
+        Taken::by(fields, vector_bytes, &registers)
+    }
+
+    #[test]
+    fn the_upper_half_of_the_index_register_does_not_count() {
+        let tile = Tile {
+            element_bytes: 8,
+            number: 6,
+            vector_bytes: 64,
+        };
+        let slice = Taken::Slice {
+            tile,
+            vertical: true,
+            slice: 0,
+        };
+        assert_eq!(taken(0xC0C2E3BF, 64, 0xFFFF_FFFF), slice);
+        assert_eq!(taken(0xC0C2E3BF, 64, u64::MAX), slice);
+    }
+
+    #[test]
+    fn groups_of_the_array_are_a_stride_apart() {
+        assert_eq!(taken(0xC0064CFC, 16, 2), Taken::Vectors(vec![1, 5, 9, 13]));
+        assert_eq!(taken(0xC0060A6A, 16, 6), Taken::Vectors(vec![1, 9]));
+    }
+
+    #[test]
+    fn only_the_lowest_bit_of_an_element_makes_it_active() {
+        let tile = Tile {
+            element_bytes: 4,
+            number: 0,
+            vector_bytes: 16,
+        };
+        assert_eq!(active_elements(tile, &[0b0001_1110, 0xFF]), [1, 2, 3]);
+    }
+}

@@ -1,0 +1,203 @@
+//! Words, fields and answers in plain English.
+
+use crate::digits::shown;
+use sme_move::{Fields, Refusal};
+
+/// The names of the eleven numbers, in their order.
+const FIELD_NAMES: [&str; 11] = [
+    "kind",
+    "element bytes",
+    "direction",
+    "tile",
+    "offset",
+    "index register",
+    "predicate",
+    "first vector register",
+    "base register",
+    "offset register",
+    "vector registers",
+];
+
+/// How many ranges of numbers are worth reading.
+const MAX_RANGES: usize = 12;
+
+/// What a decoded word is.
+pub fn meaning(fields: Fields) -> String {
+    let vector = fields.vector;
+    match fields.kind {
+        1 => format!(
+            "move to tile: {}; from vector register {vector}, predicate {}",
+            slices(fields),
+            fields.predicate
+        ),
+        2 => format!(
+            "move and zero from tile: {}; to vector register {vector}",
+            slices(fields)
+        ),
+        3 => format!("move from array: {}", group(fields)),
+        4 => format!("move and zero from array: {}", group(fields)),
+        _ => format!(
+            "store from tile: {}; predicate {}, at {}",
+            slices(fields),
+            fields.predicate,
+            store_address(fields)
+        ),
+    }
+}
+
+fn slices(fields: Fields) -> String {
+    let direction = direction(fields.direction == 1);
+    let (element_bytes, tile) = (fields.element_bytes, fields.tile);
+    format!("{element_bytes}-byte elements, tile {tile}, {direction}")
+}
+
+pub fn direction(vertical: bool) -> &'static str {
+    if vertical {
+        "vertical"
+    } else {
+        "horizontal"
+    }
+}
+
+fn group(fields: Fields) -> String {
+    let (count, first) = (fields.registers, fields.vector);
+    let last = first + count - 1;
+    format!("{count} vectors; to vector registers {first} to {last}")
+}
+
+/// How a store's address is made. Number 31 is the stack pointer as base, and zero as offset.
+pub fn store_address(fields: Fields) -> String {
+    let base = match fields.base {
+        31 => "the stack pointer".to_string(),
+        base => format!("register {base}"),
+    };
+    match fields.offset_register {
+        31 => format!("{base} + zero"),
+        offset => format!("{base} + register {offset}"),
+    }
+}
+
+/// The eleven numbers with their names, on three lines.
+pub fn fields(fields: Fields) -> Vec<String> {
+    let numbers: [u8; 11] = fields.into();
+    let named: Vec<String> = FIELD_NAMES
+        .iter()
+        .zip(numbers)
+        .map(|(name, number)| format!("{name} {number}"))
+        .collect();
+    [&named[..5], &named[5..8], &named[8..]]
+        .map(|some| some.join(", "))
+        .to_vec()
+}
+
+/// An answer's number and what it means.
+pub fn answer(answer: Result<(), Refusal>) -> String {
+    match answer {
+        Ok(()) => "0: done".to_string(),
+        // The runner's registers always have the right lengths, so this is all that is left of 2.
+        Err(Refusal::BadLengths) => "2: memory ends above address FFFFFFFFFFFFFFFF".to_string(),
+        Err(refusal) => format!("{}: {refusal}", refusal.number()),
+    }
+}
+
+/// Numbers in order as ranges: `0 to 3, 5 and 7`; of many ranges only the first.
+pub fn ranges(numbers: &[usize]) -> String {
+    let mut ranges: Vec<(usize, usize)> = Vec::new();
+    for &number in numbers {
+        match ranges.last_mut() {
+            Some((_, last)) if *last + 1 == number => *last = number,
+            _ => ranges.push((number, number)),
+        }
+    }
+    let texts = ranges.iter().map(|&(first, last)| match last - first {
+        0 => first.to_string(),
+        1 => format!("{first}, {last}"),
+        _ => format!("{first} to {last}"),
+    });
+    let mut texts: Vec<String> = texts.take(MAX_RANGES).collect();
+    if ranges.len() > MAX_RANGES {
+        texts.push("so on".to_string());
+    }
+    list(&texts)
+}
+
+/// So many texts with commas, the last one with `and`.
+pub fn list(texts: &[String]) -> String {
+    match texts {
+        [] => "none".to_string(),
+        [one] => one.clone(),
+        [first @ .., last] => format!("{} and {last}", first.join(", ")),
+    }
+}
+
+/// A count and its noun, which takes an s.
+pub fn counted(count: usize, noun: &str) -> String {
+    match count {
+        1 => format!("1 {noun}"),
+        _ => format!("{count} {noun}s"),
+    }
+}
+
+/// A part of the command line as a message repeats it.
+pub fn quoted(text: &std::ffi::OsStr) -> String {
+    format!("'{}'", shown(&text.to_string_lossy()))
+}
+
+#[cfg(test)]
+mod tests {
+    use super::*;
+    use sme_move::decode_fields;
+
+    fn meaning_of(word: u32) -> String {
+        meaning(decode_fields(word, 3).expect("the word decodes"))
+    }
+
+    #[test]
+    fn each_kind_has_its_meaning() {
+        for (word, expected) in [
+            (
+                0xC080ACA9,
+                "move to tile: 4-byte elements, tile 2, vertical; from vector register 5, predicate 3",
+            ),
+            (
+                0xC0C2E3BF,
+                "move and zero from tile: 8-byte elements, tile 6, vertical; to vector register 31",
+            ),
+            (0xC0064CFC, "move from array: 4 vectors; to vector registers 28 to 31"),
+            (0xC0060A6A, "move and zero from array: 2 vectors; to vector registers 10 to 11"),
+            (
+                0xE0220020,
+                "store from tile: 1-byte elements, tile 0, horizontal; predicate 0, \
+                 at register 1 + register 2",
+            ),
+            (
+                0xE03F03E0,
+                "store from tile: 1-byte elements, tile 0, horizontal; predicate 0, \
+                 at the stack pointer + zero",
+            ),
+        ] {
+            assert_eq!(meaning_of(word), expected);
+        }
+    }
+
+    #[test]
+    fn answers_have_their_numbers() {
+        assert_eq!(answer(Ok(())), "0: done");
+        assert_eq!(answer(Err(Refusal::ZaOff)), "5: ZA is off");
+        let outside = Refusal::OutsideMemory { address: 0xFC };
+        assert_eq!(
+            answer(Err(outside)),
+            "7: address 00000000000000FC is not in memory"
+        );
+    }
+
+    #[test]
+    fn numbers_in_order_become_ranges() {
+        assert_eq!(ranges(&[]), "none");
+        assert_eq!(ranges(&[4]), "4");
+        assert_eq!(ranges(&[0, 1, 3]), "0, 1 and 3");
+        assert_eq!(ranges(&[0, 1, 2, 5, 7, 8, 9]), "0 to 2, 5 and 7 to 9");
+        let even: Vec<usize> = (0..40).map(|i| 2 * i).collect();
+        assert!(ranges(&even).ends_with("20, 22 and so on"));
+    }
+}
