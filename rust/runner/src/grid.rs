@@ -80,7 +80,7 @@ impl Grid<'_> {
         lines.push(faint(&layout.line(&self.label(&headings), titles)));
 
         let numbers = self.column_numbers(&layout.groups);
-        let numbers = panes.iter().map(|_| format!("{numbers:width$}"));
+        let numbers = panes.iter().map(|_| numbers.clone());
         let corner = format!("{:>1$}", self.column.0, self.label_width());
         lines.push(faint(&layout.line(&corner, numbers)));
 
@@ -101,15 +101,16 @@ impl Grid<'_> {
     /// Labels of a row, or their headings, after a blank for the mark of a row that is taken.
     fn label(&self, texts: &[String]) -> String {
         let columns = texts.iter().enumerate();
-        columns
-            .map(|(i, text)| format!(" {text:>0$}", self.column_width(i)))
-            .collect()
+        let label = columns.map(|(i, text)| format!(" {text:>0$}", self.column_width(i)));
+        let label: String = label.collect();
+        format!("{label:>0$}", self.label_width())
     }
 
     fn label_width(&self) -> usize {
-        (0..self.headings.len())
+        let labels: usize = (0..self.headings.len())
             .map(|i| 1 + self.column_width(i))
-            .sum()
+            .sum();
+        labels.max(1 + self.column.0.len())
     }
 
     fn column_width(&self, heading: usize) -> usize {
@@ -178,13 +179,17 @@ impl Grid<'_> {
     /// The numbers of columns over their groups, the taken one marked; where groups are narrow only
     /// those that have room.
     fn column_numbers(&self, groups: &Range<usize>) -> String {
-        let mut line = vec![' '; self.pane_width(groups) + 8];
+        let mut line = vec![' '; self.pane_width(groups)];
         let number = |group: usize| (group * self.column.1).to_string();
         let mut place = |group: usize, text: String| {
-            let start = (group - groups.start) * (2 * self.group + 1);
-            let room = start.saturating_sub(1)..start + text.len() + 1;
-            if line[room].iter().all(|&c| c == ' ') {
-                line.splice(start..start + text.len(), text.chars());
+            let Some(last_start) = line.len().checked_sub(text.len()) else {
+                return;
+            };
+            let start = ((group - groups.start) * (2 * self.group + 1)).min(last_start);
+            let end = start + text.len();
+            let around = start.saturating_sub(1)..line.len().min(end + 1);
+            if line[around].iter().all(|&c| c == ' ') {
+                line.splice(start..end, text.chars());
             }
         };
         if let Some(taken) = self.taken_group.filter(|taken| groups.contains(taken)) {
@@ -193,7 +198,7 @@ impl Grid<'_> {
         for group in groups.clone() {
             place(group, number(group));
         }
-        line.into_iter().collect::<String>().trim_end().to_string()
+        line.into_iter().collect()
     }
 }
 

@@ -5,8 +5,10 @@ use crate::paint::View;
 use crate::wording::counted;
 use std::ops::Range;
 
-/// How many rows are shown of a grid that is not shown whole.
+/// How many rows are shown of a grid that is not shown whole, and how many of them before and after
+/// those that changed.
 const MAX_ROWS: usize = 16;
+const CONTEXT: usize = 2;
 
 /// Blanks before the label of a row, between label and content, and between panes.
 const MARGIN: &str = "  ";
@@ -42,14 +44,21 @@ impl Layout {
             Panes::Beside => beside,
             Panes::Unchanged | Panes::Stacked => groups_that_fit(grid, view.width, 1),
         };
-        let shown = |focus, total, room| match view.all {
-            true => 0..total,
-            false => window(focus, total, room),
-        };
+        let all_rows = grid.rows.len();
+        let whole = view.all || (all_rows <= MAX_ROWS && total <= room);
+        if whole {
+            let (rows, groups) = (0..all_rows, 0..total);
+            return Layout {
+                panes,
+                rows,
+                groups,
+            };
+        }
+        let rows_shown = MAX_ROWS.min(rows.len() + 2 * CONTEXT);
         Layout {
-            rows: shown(rows, grid.rows.len(), MAX_ROWS),
-            groups: shown(groups, total, room),
             panes,
+            rows: window(rows, all_rows, rows_shown),
+            groups: window(groups, total, room),
         }
     }
 
@@ -74,8 +83,10 @@ impl Layout {
         if parts.is_empty() {
             return None;
         }
-        let hidden = self.hidden_changes(grid);
-        let hidden = counted(hidden, "changed byte");
+        let hidden = match self.hidden_changes(grid) {
+            0 => "no changed byte".to_string(),
+            hidden => counted(hidden, "changed byte"),
+        };
         let parts = parts.join(" and ");
         Some(format!(
             "{MARGIN} left out: {parts}, with {hidden} among them (--all shows everything)"
