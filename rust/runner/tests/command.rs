@@ -1,0 +1,159 @@
+//! The program's exit status, its messages, and where its output goes.
+
+mod common;
+
+use common::{piped, runner};
+use std::fs::File;
+use std::io::Read;
+use std::process::{Output, Stdio};
+
+const SCRIPT: &[u8] =
+    b"vector-bytes 16\npredicate 0 FFFF\nvector 0 0101010101010101 0101010101010101\n\
+                        word C0000000\n";
+
+fn run(arguments: &[&str]) -> Output {
+    runner(arguments).output().expect("the program starts")
+}
+
+#[track_caller]
+fn refused(output: &Output, message: &str) {
+    assert_eq!(output.status.code(), Some(2));
+    assert!(output.stdout.is_empty());
+    assert_eq!(
+        String::from_utf8_lossy(&output.stderr),
+        format!("{message}\n")
+    );
+}
+
+#[test]
+fn a_script_can_come_from_standard_input() {
+    let output = piped(&["-"], SCRIPT);
+    assert_eq!(output.status.code(), Some(0));
+    assert!(output.stdout.ends_with(b"\n1 word, 1 done, 0 refused\n"));
+    refused(&piped(&["-"], b""), "standard input: the file is empty");
+    let message = "standard input:2: a word has exactly eight hexadecimal digits; 'C08000' has 6";
+    refused(&piped(&["-"], b"vector-bytes 16\nword C08000\n"), message);
+}
+
+#[test]
+fn a_fault_at_the_end_keeps_the_beginning_from_being_run() {
+    let script = [SCRIPT, b"word C0000000\nword C00000\n"].concat();
+    let message = "standard input:6: a word has exactly eight hexadecimal digits; 'C00000' has 6";
+    refused(&piped(&["-"], &script), message);
+}
+
+#[test]
+fn files_that_cannot_be_read_are_refused() {
+    let output = run(&["no-such-file.txt"]);
+    assert_eq!(output.status.code(), Some(2));
+    assert!(output
+        .stderr
+        .starts_with(b"no-such-file.txt: cannot be read: "));
+    assert_eq!(run(&[env!("CARGO_TARGET_TMPDIR")]).status.code(), Some(2));
+}
+
+#[test]
+fn a_file_that_is_too_long_is_refused() {
+    let name = concat!(env!("CARGO_TARGET_TMPDIR"), "/long.txt");
+    let file = File::create(name).expect("the file can be made");
+    file.set_len((16 << 20) + 1).expect("the file can grow");
+    refused(
+        &run(&[name]),
+        &format!("{name}: the file has more than 16 MB"),
+    );
+    std::fs::remove_file(name).expect("the file is there");
+}
+
+#[test]
+fn a_wrong_command_line_is_refused() {
+    refused(
+        &run(&["--bad"]),
+        "runner: there is no option '--bad' (--help says more)",
+    );
+}
+
+#[test]
+fn colour_is_for_terminals_unless_asked_for() {
+    let coloured = |arguments: &[&str]| piped(arguments, SCRIPT).stdout.contains(&0x1B);
+    assert!(!coloured(&["-"]));
+    assert!(!coloured(&["-", "--color", "auto"]));
+    assert!(coloured(&["-", "--color", "always"]));
+    assert!(!coloured(&["-", "--color=never"]));
+    assert!(run(&["--map", "--color", "always"]).stdout.contains(&0x1B));
+}
+
+#[test]
+fn a_closed_pipe_ends_the_program_quietly() {
+    let mut child = runner(&["--map", "--vector-bytes", "256"])
+        .stdout(Stdio::piped())
+        .stderr(Stdio::piped())
+        .spawn()
+        .expect("the program starts");
+    drop(child.stdout.take());
+    let mut message = String::new();
+    let mut errors = child.stderr.take().expect("standard error is piped");
+    errors
+        .read_to_string(&mut message)
+        .expect("the message is text");
+    assert_eq!(
+        (
+            child.wait().expect("the program ends").code(),
+            message.as_str()
+        ),
+        (Some(1), "")
+    );
+}
+
+#[test]
+#[cfg(target_os = "linux")]
+fn output_that_cannot_be_written_is_said() {
+    let full = File::options()
+        .write(true)
+        .open("/dev/full")
+        .expect("a full device");
+    let output = runner(&["--map"])
+        .stdout(full)
+        .output()
+        .expect("the program starts");
+    assert_eq!(output.status.code(), Some(1));
+    assert!(output
+        .stderr
+        .starts_with(b"runner: output cannot be written: "));
+    let output = run(&["--map", "--svg", "/dev/full"]);
+    assert_eq!(output.status.code(), Some(1));
+    assert!(output.stderr.starts_with(b"/dev/full: cannot be written: "));
+}
+
+#[test]
+fn every_answer_that_a_script_can_get_is_printed() {
+    let answer = |script: &str| {
+        let output = piped(&["-"], script.as_bytes());
+        assert_eq!(output.status.code(), Some(0));
+        let text = String::from_utf8(output.stdout).expect("the output is text");
+        let line = text.lines().find(|line| line.starts_with("  answer"));
+        line.expect("there is an answer").to_string()
+    };
+    let stack = "vector-bytes 16\npredicate 0 0100\nregister 31 8\nword E03F03E0";
+    let outside = "vector-bytes 16\npredicate 0 0100\nregister 31 10\nword E03F03E0";
+    let memory = "memory-address FFFFFFFFFFFFFFFF\nmemory 0000\nword C0000000";
+    for (script, expected) in [
+        ("vector-bytes 16\nword C0000000", "0: done"),
+        (
+            &format!("vector-bytes 16\n{memory}"),
+            "2: memory ends above address FFFFFFFFFFFFFFFF",
+        ),
+        (
+            "vector-bytes 16\nword C0000010",
+            "3: the word is no instruction of this level",
+        ),
+        (
+            "vector-bytes 16\nstreaming off\narray off\nword C0000000",
+            "4: streaming mode is off",
+        ),
+        ("vector-bytes 16\narray off\nword C0000000", "5: ZA is off"),
+        (stack, "6: the stack pointer is no multiple of 16"),
+        (outside, "7: address 0000000000000010 is not in memory"),
+    ] {
+        assert_eq!(answer(script), format!("  answer   {expected}"));
+    }
+}

@@ -1,0 +1,120 @@
+//! What the program prints, byte for byte. After an intended change:
+//! `runner > tests/example.stdout`, `runner tests/scripts/NAME.txt > tests/scripts/NAME.stdout`,
+//! `runner --map --svg ../../docs/za-map.svg`.
+
+mod common;
+
+use common::runner;
+use sme_move::{encode, Direction, ElementSize, Operation};
+
+/// The output of a run that must succeed.
+fn output(arguments: &[&str]) -> String {
+    let output = runner(arguments).output().expect("the program starts");
+    assert_eq!(output.status.code(), Some(0), "{arguments:?}");
+    assert!(output.stderr.is_empty(), "{arguments:?}");
+    String::from_utf8(output.stdout).expect("the output is text")
+}
+
+fn read(name: &str) -> String {
+    let path = format!("{}/{name}", env!("CARGO_MANIFEST_DIR"));
+    std::fs::read_to_string(&path).unwrap_or_else(|error| panic!("{path}: {error}"))
+}
+
+const SCRIPTS: [&str; 4] = ["array", "large", "refused", "store"];
+
+#[test]
+fn the_example_prints_what_is_stored() {
+    assert_eq!(output(&[]), read("tests/example.stdout"));
+    let file = concat!(env!("CARGO_MANIFEST_DIR"), "/example.txt");
+    assert_eq!(output(&[file]), output(&[]));
+}
+
+#[test]
+fn the_scripts_print_what_is_stored() {
+    for name in SCRIPTS {
+        let script = format!("{}/tests/scripts/{name}.txt", env!("CARGO_MANIFEST_DIR"));
+        assert_eq!(
+            output(&[&script]),
+            read(&format!("tests/scripts/{name}.stdout")),
+            "{name}"
+        );
+    }
+}
+
+#[test]
+fn the_stored_drawing_is_what_the_program_draws() {
+    let stored = read("../../docs/za-map.svg");
+    assert_eq!(output(&["--map", "--svg", "-"]), stored);
+    let file = concat!(env!("CARGO_TARGET_TMPDIR"), "/map.svg");
+    assert_eq!(
+        output(&["--map", "--vector-bytes", "16", "--svg", file]),
+        ""
+    );
+    assert_eq!(
+        std::fs::read_to_string(file).expect("the file is written"),
+        stored
+    );
+}
+
+/// The example's words are those of the operations that its comments name.
+#[test]
+fn the_example_moves_rows_in_and_columns_out() {
+    let (size, tile) = (ElementSize::Bits32, 1);
+    let rows = (0..4).map(|row| Operation::MovaToTile {
+        size,
+        direction: Direction::Horizontal,
+        tile,
+        offset: row,
+        index: 12,
+        predicate: u8::from(row == 2),
+        vector: row,
+    });
+    let columns = (0..4).map(|column| Operation::MovazFromTile {
+        size,
+        direction: Direction::Vertical,
+        tile,
+        offset: column,
+        index: 13,
+        vector: 4 + column,
+    });
+    let words = rows
+        .chain(columns)
+        .map(|operation| encode(operation).expect("it has a word"));
+    let expected: Vec<String> = words.map(|word| format!("{word:08X}")).collect();
+    let example = read("example.txt");
+    let lines = example
+        .lines()
+        .filter_map(|line| line.strip_prefix("word "));
+    let found: Vec<&str> = lines.map(|line| &line[..8]).collect();
+    assert_eq!(found, expected);
+}
+
+/// Whether a text is a name that assembler has for a register, a tile or an instruction.
+fn is_assembler(text: &str) -> bool {
+    let text = text.to_ascii_lowercase();
+    let numbered = |prefix: &str| {
+        let rest = text.strip_prefix(prefix);
+        rest.is_some_and(|rest| rest.starts_with(|c: char| c.is_ascii_digit()))
+    };
+    ["x", "w", "z", "p", "za"].into_iter().any(numbered)
+        || ["mova", "movaz", "mov", "st1b", "sp", "xzr"].contains(&text.as_str())
+}
+
+#[test]
+fn nothing_is_said_in_assembler() {
+    let mut texts = vec![output(&["--help"]), output(&[]), output(&["--map"])];
+    texts.push(output(&[
+        "--decode", "C0000000", "C0020200", "C0064CFC", "C0060A6A", "E03F03E0",
+    ]));
+    texts.extend(SCRIPTS.map(|name| read(&format!("tests/scripts/{name}.stdout"))));
+    texts.extend(SCRIPTS.map(|name| read(&format!("tests/scripts/{name}.txt"))));
+    texts.push(read("example.txt"));
+    for text in texts {
+        let mut words = text.split(|c: char| !c.is_ascii_alphanumeric());
+        assert_eq!(words.find(|word| is_assembler(word)), None);
+    }
+    assert!(["x12", "W12", "z3", "p0", "za1h", "ZA0", "MOVAZ"]
+        .into_iter()
+        .all(is_assembler));
+    assert!(!is_assembler("ZA") && !is_assembler("word") && !is_assembler("C0800000"));
+}
