@@ -31,8 +31,8 @@ impl From<io::Error> for Failure {
     }
 }
 
-/// Does what the command line asks. The status is 0 if it was done, 1 if output could not be written and
-/// 2 if the input is wrong.
+/// Does what the command line asks. The status is 0 if it was done, 1 if output could not be written
+/// and 2 if the input is wrong.
 pub fn main(arguments: impl Iterator<Item = OsString>) -> ExitCode {
     let command = arguments::parse(arguments)
         .map_err(|message| Failure::Input(format!("runner: {message} (--help says more)")));

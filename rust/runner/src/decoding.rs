@@ -26,7 +26,7 @@ pub fn print(out: &mut impl Write, word: u32, level: u64, paint: Paint) -> io::R
         Err(refusal) => {
             let reason = match refusal {
                 Refusal::BadSettings => format!("1: there is no level {level}"),
-                _ => format!("{}: no instruction of level {level}", refusal.number()),
+                _ => format!("{}: {}", refusal.number(), wording::no_instruction(level)),
             };
             item(out, "refused", &[paint.text(Style::Refused, &reason)])
         }

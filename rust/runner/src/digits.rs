@@ -1,5 +1,5 @@
-//! Numbers as they are written: decimal for counts and for the numbers of registers, hexadecimal for
-//! contents and words.
+//! Numbers as they are written: decimal for counts and for the numbers of registers, hexadecimal
+//! for contents and words.
 
 /// How many characters of the input a message repeats.
 const SHOWN: usize = 40;

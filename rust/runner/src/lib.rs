@@ -13,6 +13,7 @@ mod decoding;
 mod digits;
 mod grid;
 mod input;
+mod kind;
 mod machine;
 mod map;
 mod map_svg;

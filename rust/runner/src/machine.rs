@@ -1,10 +1,8 @@
 //! The simulated machine: settings, registers, the array and memory.
 
+use crate::kind;
 use crate::script::{Action, Place, Script};
 use sme_move::{decode_fields, Fields, Refusal, Settings, State};
-
-/// The number of the only kind of word that writes memory.
-pub const STORE: u8 = 5;
 
 pub struct Machine {
     pub settings: Settings,
@@ -50,19 +48,23 @@ impl Machine {
         None
     }
 
+    /// A vector register, a predicate or a vector of the array.
+    pub fn member(&self, place: Place, number: usize) -> &[u8] {
+        member(&self.state, place, number, self.vector_bytes())
+    }
+
     fn member_mut(&mut self, place: Place, number: usize) -> &mut [u8] {
-        let length = place.member_bytes(self.vector_bytes());
-        let buffer = match place {
-            Place::Vector => &mut self.state.z,
-            Place::Predicate => &mut self.state.p,
-            Place::Array => &mut self.state.za,
-        };
-        &mut buffer[number * length..][..length]
+        let range = place.range(number, self.vector_bytes());
+        match place {
+            Place::Vector => &mut self.state.z[range],
+            Place::Predicate => &mut self.state.p[range],
+            Place::Array => &mut self.state.za[range],
+        }
     }
 
     fn execute(&mut self, word: u32) -> Execution {
         let fields = decode_fields(word, self.settings.level);
-        let stores = fields.is_ok_and(|fields| fields.kind == STORE);
+        let stores = fields.is_ok_and(|fields| fields.kind == kind::STORE);
         let memory_before = if stores {
             self.memory.clone()
         } else {
@@ -77,6 +79,16 @@ impl Machine {
             state_before,
             memory_before,
         }
+    }
+}
+
+/// A vector register, a predicate or a vector of the array of some state.
+pub fn member(state: &State, place: Place, number: usize, vector_bytes: usize) -> &[u8] {
+    let range = place.range(number, vector_bytes);
+    match place {
+        Place::Vector => &state.z[range],
+        Place::Predicate => &state.p[range],
+        Place::Array => &state.za[range],
     }
 }
 

@@ -45,8 +45,8 @@ fn cell(tile: Tile, vector: usize, paint: Paint) -> String {
 }
 
 /// A tile's colour, red, green and blue. A tile of one size is two of the next: these get the
-/// colours a little to the left and to the right of its own on the wheel, so that one sees which tiles
-/// lie in which.
+/// colours a little to the left and to the right of its own on the wheel, so that one sees which
+/// tiles lie in which.
 pub fn colour(tile: Tile) -> [u8; 3] {
     let (mut place, mut rest) = (0, tile.number);
     let mut size = tile.element_bytes;

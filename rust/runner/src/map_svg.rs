@@ -12,7 +12,7 @@ const COLUMN: usize = 128;
 const GAP: usize = 10;
 const ROW: usize = 26;
 
-/// The drawing. It brings its own light ground, so that it reads the same on a light and a dark page.
+/// The drawing. It brings its own light ground, so that it reads the same on light and dark pages.
 pub fn svg(vector_bytes: usize) -> String {
     let width = 2 * MARGIN + LABEL + ELEMENT_BYTES.len() * (COLUMN + GAP) - GAP;
     let height = HEAD + vector_bytes * ROW + FOOT;

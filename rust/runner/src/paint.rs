@@ -35,7 +35,8 @@ pub struct Paint {
 }
 
 impl Paint {
-    /// For standard output. NO_COLOR is a convention of many programs: any content turns colour off.
+    /// For standard output. NO_COLOR is a convention of many programs: any content turns colour
+    /// off.
     pub fn chosen(choice: ColorChoice) -> Paint {
         let wanted = || env::var_os("NO_COLOR").is_none_or(|value| value.is_empty());
         let colours = match choice {

@@ -3,8 +3,10 @@
 mod grids;
 
 use crate::grid::Grid;
-use crate::machine::{Execution, Machine, STORE};
+use crate::kind;
+use crate::machine::{Execution, Machine};
 use crate::paint::{Style, View};
+use crate::script::Place;
 use crate::taken::{active_elements, index_value, modulus, Taken};
 use crate::wording::{self, counted, direction, list, ranges};
 use sme_move::Fields;
@@ -27,9 +29,16 @@ pub fn word(
     let title = format!("word {}: {:08X}", position.number, execution.word);
     let title = view.paint.text(Style::Heading, &title);
     writeln!(out, "{title} (line {})", position.line)?;
-    if let Ok(fields) = execution.fields {
-        decoded(out, fields)?;
-        taking(out, fields, machine)?;
+    match execution.fields {
+        Ok(fields) => {
+            decoded(out, fields)?;
+            taking(out, fields, machine)?;
+        }
+        Err(_) => item(
+            out,
+            "meaning",
+            &[wording::no_instruction(machine.settings.level)],
+        )?,
     }
     answer(out, view, execution)?;
     if let (Ok(fields), Ok(())) = (execution.fields, execution.answer) {
@@ -82,13 +91,12 @@ fn taking(out: &mut impl Write, fields: Fields, machine: &Machine) -> io::Result
     let registers = &machine.state.x;
     let taken = Taken::by(fields, machine.vector_bytes(), registers);
     item(out, "takes", &[what_is_taken(&taken), why(fields, machine)])?;
-    if let (1 | STORE, Taken::Slice { tile, .. }) = (fields.kind, taken) {
-        let length = machine.vector_bytes() / 8;
-        let predicate = &machine.state.p[usize::from(fields.predicate) * length..][..length];
+    if let (kind::MOVE_TO_TILE | kind::STORE, Taken::Slice { tile, .. }) = (fields.kind, taken) {
+        let predicate = machine.member(Place::Predicate, usize::from(fields.predicate));
         let active = active(&active_elements(tile, predicate), tile.slices());
         item(out, "active", &[active])?;
     }
-    if fields.kind == STORE {
+    if fields.kind == kind::STORE {
         let offset = match fields.offset_register {
             31 => 0,
             register => registers[usize::from(register)],

@@ -4,6 +4,7 @@ mod draft;
 mod parser;
 
 use sme_move::Settings;
+use std::ops::Range;
 
 pub use draft::vector_bytes;
 pub use parser::parse;
@@ -67,6 +68,12 @@ impl Place {
             Place::Predicate => vector_bytes / 8,
             Place::Vector | Place::Array => vector_bytes,
         }
+    }
+
+    /// Where a member lies among the bytes of all.
+    pub fn range(self, number: usize, vector_bytes: usize) -> Range<usize> {
+        let length = self.member_bytes(vector_bytes);
+        number * length..(number + 1) * length
     }
 }
 

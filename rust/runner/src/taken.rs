@@ -14,6 +14,10 @@ pub enum Taken {
     Vectors(Vec<usize>),
 }
 
+pub fn is_vertical(fields: Fields) -> bool {
+    fields.direction == 1
+}
+
 /// The low 32 bits of the index register, which alone count.
 pub fn index_value(fields: Fields, registers: &[u64]) -> u32 {
     registers[usize::from(fields.index)] as u32
@@ -43,7 +47,7 @@ impl Taken {
                 number: usize::from(fields.tile),
                 vector_bytes,
             },
-            vertical: fields.direction == 1,
+            vertical: is_vertical(fields),
             slice: first,
         }
     }

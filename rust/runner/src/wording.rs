@@ -1,6 +1,8 @@
 //! Words, fields and answers in plain English.
 
 use crate::digits::shown;
+use crate::kind;
+use crate::taken::is_vertical;
 use sme_move::{Fields, Refusal};
 
 /// The names of the eleven numbers, in their order.
@@ -25,17 +27,17 @@ const MAX_RANGES: usize = 12;
 pub fn meaning(fields: Fields) -> String {
     let vector = fields.vector;
     match fields.kind {
-        1 => format!(
+        kind::MOVE_TO_TILE => format!(
             "move to tile: {}; from vector register {vector}, predicate {}",
             slices(fields),
             fields.predicate
         ),
-        2 => format!(
+        kind::MOVE_AND_ZERO_FROM_TILE => format!(
             "move and zero from tile: {}; to vector register {vector}",
             slices(fields)
         ),
-        3 => format!("move from array: {}", group(fields)),
-        4 => format!("move and zero from array: {}", group(fields)),
+        kind::MOVE_FROM_ARRAY => format!("move from array: {}", group(fields)),
+        kind::MOVE_AND_ZERO_FROM_ARRAY => format!("move and zero from array: {}", group(fields)),
         _ => format!(
             "store from tile: {}; predicate {}, at {}",
             slices(fields),
@@ -46,7 +48,7 @@ pub fn meaning(fields: Fields) -> String {
 }
 
 fn slices(fields: Fields) -> String {
-    let direction = direction(fields.direction == 1);
+    let direction = direction(is_vertical(fields));
     let (element_bytes, tile) = (fields.element_bytes, fields.tile);
     format!("{element_bytes}-byte elements, tile {tile}, {direction}")
 }
@@ -75,6 +77,11 @@ pub fn store_address(fields: Fields) -> String {
         31 => format!("{base} + zero"),
         offset => format!("{base} + register {offset}"),
     }
+}
+
+/// What a word is that does not decode.
+pub fn no_instruction(level: u64) -> String {
+    format!("no instruction of level {level}")
 }
 
 /// The eleven numbers with their names, on three lines.

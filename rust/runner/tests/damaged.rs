@@ -1,5 +1,6 @@
-//! Damaged scripts, thousands of them if asked: each is refused with a message that names the file and the
-//! line, and nothing is run. DAMAGED_FILES says how many, DAMAGED_SEED where the random numbers start.
+//! Damaged scripts, thousands of them if asked: each is refused with a message that names the file
+//! and the line, and nothing is run. DAMAGED_FILES says how many, DAMAGED_SEED where the random
+//! numbers start.
 
 mod common;
 #[path = "damaged/damage.rs"]
@@ -44,28 +45,14 @@ fn damaged_files_are_refused_with_file_and_line() {
     let start = Instant::now();
     let mut random = Random(seed);
     let mut tally = Tally::default();
-    // Random damage often enough leaves a valid script, but not nearly always.
     while tally.refused < files {
+        // Random damage often enough leaves a valid script, but not nearly always.
         let drawn = tally.refused + tally.still_valid;
         assert!(
             drawn < 20 * files + 100,
-            "too much damage leaves the script valid"
+            "too much damage leaves scripts valid"
         );
-        let script = SCRIPTS[random.below(SCRIPTS.len())];
-        let kind = KINDS[random.below(KINDS.len())];
-        let bytes = damaged(script, kind, &mut random);
-        match run(&bytes) {
-            Ok(Verdict::Refused) => {
-                tally.refused += 1;
-                *tally.kinds.entry(kind.0).or_default() += 1;
-            }
-            Ok(Verdict::Ran) => tally.still_valid += 1,
-            Err(fault) => panic!(
-                "file {drawn} of seed {seed}, {}: {fault}\n{}",
-                kind.0,
-                String::from_utf8_lossy(&bytes)
-            ),
-        }
+        tally.draw(&mut random);
     }
     let Tally {
         refused,
@@ -77,6 +64,30 @@ fn damaged_files_are_refused_with_file_and_line() {
         start.elapsed()
     );
     println!("refused by kind of damage: {kinds:?}");
+}
+
+impl Tally {
+    /// Damages a script and runs it.
+    fn draw(&mut self, random: &mut Random) {
+        let script = SCRIPTS[random.below(SCRIPTS.len())];
+        let kind = KINDS[random.below(KINDS.len())];
+        let bytes = damaged(script, kind, random);
+        match run(&bytes) {
+            Ok(Verdict::Refused) => {
+                self.refused += 1;
+                *self.kinds.entry(kind.0).or_default() += 1;
+            }
+            Ok(Verdict::Ran) => self.still_valid += 1,
+            Err(fault) => {
+                let file = String::from_utf8_lossy(&bytes);
+                panic!(
+                    "{} in file {}: {fault}\n{file}",
+                    kind.0,
+                    self.refused + self.still_valid
+                )
+            }
+        }
+    }
 }
 
 /// Every script is right before it is damaged.

@@ -1,7 +1,8 @@
 //! The grids that show what a word did.
 
 use crate::grid::{Grid, Row};
-use crate::machine::{Execution, Machine};
+use crate::machine::{member, Execution, Machine};
+use crate::script::Place;
 use crate::taken::Taken;
 use crate::tile::Tile;
 use sme_move::Fields;
@@ -35,25 +36,20 @@ pub fn of<'a>(
         .chain(changes.filter(|grid| !grid.rows.is_empty()))
 }
 
-/// Vector `number` of a buffer of vectors.
-fn vector(buffer: &[u8], number: usize, vector_bytes: usize) -> &[u8] {
-    &buffer[number * vector_bytes..][..vector_bytes]
-}
-
-/// A row that is a vector of the array, before and after.
-fn array_row<'a>(
+/// A row that is a vector register or a vector of the array, before and after.
+fn row<'a>(
     execution: &'a Execution,
     machine: &'a Machine,
-    number: usize,
+    (place, number): (Place, usize),
     labels: Vec<String>,
     taken: bool,
 ) -> Row<'a> {
-    let vector_bytes = machine.vector_bytes();
+    let before = &execution.state_before;
     Row {
         labels,
         taken,
-        before: vector(&execution.state_before.za, number, vector_bytes),
-        after: vector(&machine.state.za, number, vector_bytes),
+        before: member(before, place, number, machine.vector_bytes()),
+        after: machine.member(place, number),
     }
 }
 
@@ -64,48 +60,43 @@ fn of_tile<'a>(
     vertical: bool,
     slice: usize,
 ) -> Grid<'a> {
-    let row = |number: usize| {
+    let tile_row = |number: usize| {
         let vector = tile.vector(number);
         let labels = vec![number.to_string(), vector.to_string()];
-        array_row(
-            execution,
-            machine,
-            vector,
-            labels,
-            !vertical && number == slice,
-        )
+        let taken = !vertical && number == slice;
+        row(execution, machine, (Place::Array, vector), labels, taken)
     };
     Grid {
         title: tile.name(),
         headings: vec!["slice", "vector"],
         column: ("column", 1),
         group: tile.element_bytes,
-        rows: (0..tile.slices()).map(row).collect(),
+        rows: (0..tile.slices()).map(tile_row).collect(),
         taken_group: vertical.then_some(slice),
     }
 }
 
 fn of_vectors<'a>(execution: &'a Execution, machine: &'a Machine, vectors: &[usize]) -> Grid<'a> {
-    let row =
-        |&number: &usize| array_row(execution, machine, number, vec![number.to_string()], true);
+    let rows = vectors.iter().map(|&number| {
+        let place = (Place::Array, number);
+        row(execution, machine, place, vec![number.to_string()], true)
+    });
     Grid {
         title: "vectors of the array".to_string(),
         headings: vec!["vector"],
         column: ("byte", GROUP),
         group: GROUP,
-        rows: vectors.iter().map(row).collect(),
+        rows: rows.collect(),
         taken_group: None,
     }
 }
 
 fn of_registers<'a>(fields: Fields, execution: &'a Execution, machine: &'a Machine) -> Grid<'a> {
-    let vector_bytes = machine.vector_bytes();
-    let row = |number: usize| Row {
-        labels: vec![number.to_string()],
-        taken: false,
-        before: vector(&execution.state_before.z, number, vector_bytes),
-        after: vector(&machine.state.z, number, vector_bytes),
-    };
+    let registers = 0..Place::Vector.members(machine.vector_bytes());
+    let rows = registers.map(|number| {
+        let place = (Place::Vector, number);
+        row(execution, machine, place, vec![number.to_string()], false)
+    });
     let (column, group) = match usize::from(fields.element_bytes) {
         0 => (("byte", GROUP), GROUP),
         element_bytes => (("element", 1), element_bytes),
@@ -115,10 +106,7 @@ fn of_registers<'a>(fields: Fields, execution: &'a Execution, machine: &'a Machi
         headings: vec!["register"],
         column,
         group,
-        rows: (0..32)
-            .map(row)
-            .filter(|row| row.before != row.after)
-            .collect(),
+        rows: rows.filter(|row| row.before != row.after).collect(),
         taken_group: None,
     }
 }
@@ -152,7 +140,7 @@ fn of_memory<'a>(execution: &'a Execution, machine: &'a Machine) -> Grid<'a> {
 /// Vector registers at the end of a script.
 pub fn of_final_registers<'a>(machine: &'a Machine, numbers: &[usize]) -> Grid<'a> {
     let row = |&number: &usize| {
-        let bytes = vector(&machine.state.z, number, machine.vector_bytes());
+        let bytes = machine.member(Place::Vector, number);
         Row {
             labels: vec![number.to_string()],
             taken: false,

@@ -168,7 +168,8 @@ fn statements(file: &[u8]) -> Vec<Range<usize>> {
         .collect()
 }
 
-/// Where the values of statements lie: what stands between blanks, after the first and before a comment.
+/// Where the values of statements lie: what stands between blanks, after the first and before a
+/// comment.
 fn values(file: &[u8]) -> Vec<Range<usize>> {
     let of_line = |line: Range<usize>| {
         let bytes = &file[line.clone()];

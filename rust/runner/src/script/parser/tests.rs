@@ -71,7 +71,7 @@ fn settings_come_first() {
 }
 
 #[test]
-fn contents_are_checked() {
+fn registers_are_checked() {
     faults(&[
         (
             "B;register 32 0",
@@ -100,6 +100,12 @@ fn contents_are_checked() {
         ),
         ("B;vector 3 001", "k:2: '001' has 3 digits; a byte has two"),
         ("B;vector 3 0G", "k:2: '0G' has 'G' in it"),
+    ]);
+}
+
+#[test]
+fn predicates_and_vectors_of_the_array_are_checked() {
+    faults(&[
         (
             "B;predicate 16 0000",
             "k:2: '16' is no number of a predicate: 0 to 15",
