@@ -73,7 +73,7 @@ impl Grid<'_> {
 
     /// Panes side by side under their titles.
     fn block(&self, layout: &Layout, view: &View, panes: &[(&str, Side)], lines: &mut Vec<String>) {
-        let faint = |text: &str| view.paint.text(Style::Faint, text);
+        let faint = |text: &str| view.paint.text(Style::Faint, text.trim_end());
         let width = self.pane_width(&layout.groups);
         let titles = panes.iter().map(|(title, _)| format!("{title:width$}"));
         let headings: Vec<String> = self.headings.iter().map(|text| text.to_string()).collect();
