@@ -4,6 +4,7 @@ set -euo pipefail
 
 # The caller's directory stays, so that file names are the caller's.
 root=$(cd "$(dirname "$0")" && pwd)
+echo "run.sh: proving and building the unit, which takes some minutes the first time" >&2
 log=$(mktemp)
 trap 'rm -f "$log"' EXIT
 (cd "$root" && rt staticlib sme_move) >"$log" 2>&1 || {

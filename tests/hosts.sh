@@ -1,5 +1,5 @@
 #!/usr/bin/env bash
-# Takes the hosts in C and in Rust out of the README, builds and runs them with the commands that stand
+# Takes the kernel and the hosts in C and in Rust out of the README, runs them with the commands that stand
 # there, and holds what they print to what stands there.
 # Build first: rt staticlib sme_move
 set -euo pipefail
@@ -22,16 +22,23 @@ block() {
 ln -s "$root/include" "$root/rust" "$out/"
 mkdir "$out/target"
 ln -s "$root/target/staticlib" "$out/target/"
+echo "exec bash '$root/run.sh' \"\$@\"" >"$out/run.sh"
 
+block kernel 1 >"$out/kernel.txt"
 block c 1 >"$out/host.c"
 block rust 1 >"$out/host.rs"
-for host in 1 2; do
+for host in 1 2 3; do
     block sh "$host" >"$out/commands"
     block text "$host" >"$out/expected"
     (cd "$out" && bash -euo pipefail commands) >"$out/printed"
     diff "$out/expected" "$out/printed" || {
-        echo "hosts.sh: host $host of the README prints something else than stands there" >&2
+        echo "hosts.sh: example $host of the README prints something else than stands there" >&2
         exit 1
     }
 done
-echo "both hosts of the README print what stands there"
+
+# The README shows a part of what the built-in kernel prints.
+block output 1 >"$out/part"
+sed -n "/^$(head -1 "$out/part" | cut -d: -f1):/,\$p" rust/runner/tests/example.stdout |
+    head -n "$(wc -l <"$out/part")" | diff - "$out/part"
+echo "the kernel and both hosts of the README print what stands there"
