@@ -1,5 +1,6 @@
 //! What the command line asks for.
 
+use crate::command::{unknown, Options};
 use second::execute::Mistake;
 use std::ffi::OsString;
 
@@ -11,27 +12,26 @@ pub struct Arguments {
     pub mistake: Mistake,
 }
 
+/// The seed of runs that are given none.
+pub const SEED: u64 = 0x5EC0_0003;
+
 const DEFAULT: Arguments = Arguments {
-    seed: 0x5EC0_0003,
+    seed: SEED,
     count: 200_000,
     mistake: Mistake::None,
 };
 
 impl Arguments {
     /// Reads options in any order; each takes one value.
-    pub fn read(mut words: impl Iterator<Item = OsString>) -> Result<Arguments, String> {
+    pub fn read(words: impl Iterator<Item = OsString>) -> Result<Arguments, String> {
+        let mut options = Options::new(words);
         let mut arguments = DEFAULT;
-        while let Some(option) = words.next() {
-            let option = text(option)?;
-            let value = match words.next() {
-                Some(value) => text(value)?,
-                None => return Err(format!("{option}: a value is missing")),
-            };
+        while let Some(option) = options.option()? {
             match option.as_str() {
-                "--seed" => arguments.seed = number(&value)?,
-                "--count" => arguments.count = number(&value)?,
-                "--mistake" => arguments.mistake = mistake(&value)?,
-                _ => return Err(format!("{option}: no such option")),
+                "--seed" => arguments.seed = options.number(&option)?,
+                "--count" => arguments.count = options.number(&option)?,
+                "--mistake" => arguments.mistake = mistake(&options.value(&option)?)?,
+                _ => return Err(unknown(&option)),
             }
         }
         Ok(arguments)
@@ -50,20 +50,6 @@ pub fn usage() -> String {
         usage.push_str(name);
     }
     usage
-}
-
-fn text(word: OsString) -> Result<String, String> {
-    let unreadable = |word: OsString| format!("{}: not readable", word.display());
-    word.into_string().map_err(unreadable)
-}
-
-/// A number, decimal or after 0x hexadecimal.
-fn number(value: &str) -> Result<u64, String> {
-    let read = match value.strip_prefix("0x") {
-        Some(digits) => u64::from_str_radix(digits, 16),
-        None => value.parse(),
-    };
-    read.map_err(|error| format!("{value}: {error}"))
 }
 
 fn mistake(name: &str) -> Result<Mistake, String> {

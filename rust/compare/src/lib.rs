@@ -6,6 +6,8 @@
 
 pub mod arguments;
 pub mod case;
+pub mod command;
+pub mod counts;
 pub mod difference;
 pub mod generate;
 pub mod run;

@@ -2,49 +2,43 @@
 
 use crate::arguments::Arguments;
 use crate::case::{Case, Outcome};
+use crate::counts::Counts;
 use crate::difference::Difference;
 use crate::generate::generate;
-use crate::situations::Situations;
-use crate::table::Table;
-use crate::view::View;
+use second::execute::Mistake;
 use second::inputs::random::Random;
 
-/// Below this many cases, a cell of the table may be empty by chance.
-const ENOUGH: u64 = 50_000;
+/// Runs what the command line asks for. True if it passes.
+pub fn run(arguments: &Arguments) -> bool {
+    println!("seed 0x{:X}, count {}", arguments.seed, arguments.count);
+    match arguments.mistake {
+        Mistake::None => compare(arguments),
+        _ => notice(arguments),
+    }
+}
 
 /// Compares all cases and prints the counts. True if all agree and nothing
 /// that can occur is missing.
-pub fn compare(arguments: &Arguments) -> bool {
-    let mut table = Table::default();
-    let mut situations = Situations::default();
-    let found = first_difference(arguments, |case, outcome| {
-        table.add(case, outcome.answer);
-        situations.add(&View::new(case, outcome));
-    });
+fn compare(arguments: &Arguments) -> bool {
+    let mut counts = Counts::default();
+    let found = first_difference(arguments, |case, outcome| counts.add(case, outcome));
     if let Some(difference) = found {
         print!("{difference}");
         return false;
     }
-    print!("{table}\n{situations}");
-    println!("{} cases, no difference", arguments.count);
-    let mut complaints = table.impossible();
-    if arguments.count >= ENOUGH {
-        complaints.extend(table.missing());
-        complaints.extend(situations.missing());
+    print!("{counts}");
+    println!("{} cases, no difference", counts.cases());
+    match counts.check() {
+        Ok(()) => true,
+        Err(complaints) => {
+            println!("{complaints}");
+            false
+        }
     }
-    without(&complaints)
-}
-
-/// Prints the complaints; true if there are none.
-fn without(complaints: &[String]) -> bool {
-    for complaint in complaints {
-        println!("FAILED: {complaint}");
-    }
-    complaints.is_empty()
 }
 
 /// Runs the second program with its mistake. True if a difference is found.
-pub fn notice(arguments: &Arguments) -> bool {
+fn notice(arguments: &Arguments) -> bool {
     let mistake = arguments.mistake;
     match first_difference(arguments, |_, _| ()) {
         Some(difference) => {
@@ -59,7 +53,7 @@ pub fn notice(arguments: &Arguments) -> bool {
 }
 
 /// Runs cases until two outcomes differ; `agreed` sees those that do not.
-fn first_difference(
+pub fn first_difference(
     arguments: &Arguments,
     mut agreed: impl FnMut(&Case, &Outcome),
 ) -> Option<Difference> {

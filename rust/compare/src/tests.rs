@@ -2,10 +2,9 @@
 
 use crate::arguments::Arguments;
 use crate::case::{Case, Outcome};
+use crate::counts::Counts;
 use crate::generate::generate;
-use crate::situations::Situations;
 use crate::table::Table;
-use crate::view::View;
 use second::execute::Mistake;
 use second::inputs::random::Random;
 use std::ffi::OsString;
@@ -37,18 +36,13 @@ fn cases_reach_all_that_can_occur() {
     let mut random = Random::new(11);
     let mut case = Case::empty();
     let mut outcome = Outcome::default();
-    let mut table = Table::default();
-    let mut situations = Situations::default();
+    let mut counts = Counts::default();
     for _ in 0..60_000 {
         generate(&mut random, &mut case);
         outcome.run_second(&case, Mistake::None);
-        table.add(&case, outcome.answer);
-        situations.add(&View::new(&case, &outcome));
+        counts.add(&case, &outcome);
     }
-    let nothing = Vec::<String>::new();
-    assert_eq!(table.missing(), nothing);
-    assert_eq!(table.impossible(), nothing);
-    assert_eq!(situations.missing(), nothing);
+    assert_eq!(counts.check(), Ok(()));
 }
 
 /// An empty run has much to complain of.
