@@ -26,13 +26,14 @@ pub const OTHER_LENGTHS: [u64; 15] = [
 
 /// Levels that are none: the first above the highest, and numbers whose low
 /// bytes look right.
-pub const OTHER_LEVELS: [u64; 9] = [
+pub const OTHER_LEVELS: [u64; 10] = [
     4,
     5,
     255,
     256,
     259,
     1 << 16 | 1,
+    1 << 32,
     1 << 32 | 3,
     1 << 63,
     u64::MAX,
