@@ -25,6 +25,13 @@ impl Counts {
         self.situations.add(&View::new(case, outcome));
     }
 
+    /// Takes the counts of other cases in.
+    pub fn merge(&mut self, other: Counts) {
+        self.cases += other.cases;
+        self.table.merge(other.table);
+        self.situations.merge(other.situations);
+    }
+
     /// How many cases there were.
     pub fn cases(&self) -> u64 {
         self.cases

@@ -9,6 +9,7 @@ pub mod case;
 pub mod command;
 pub mod counts;
 pub mod difference;
+pub mod exhaustive;
 pub mod generate;
 pub mod run;
 pub mod situations;

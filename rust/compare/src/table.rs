@@ -64,6 +64,20 @@ impl Table {
         }
     }
 
+    /// Takes the counts of other cases in. What is strange is sorted, so that
+    /// the order in which threads come to an end does not show.
+    pub fn merge(&mut self, other: Table) {
+        let cells = self.counts.iter_mut().flatten().flatten();
+        for (own, other) in cells.zip(other.counts.iter().flatten().flatten()) {
+            *own += other;
+        }
+        for (own, other) in self.other_length.iter_mut().zip(&other.other_length) {
+            *own += other;
+        }
+        self.strange.extend(other.strange);
+        self.strange.sort();
+    }
+
     /// Cells that can occur and are empty, and too few cases done.
     pub fn missing(&self) -> Vec<String> {
         let mut missing = self.cells(|possible, count| possible && count == 0);
@@ -139,7 +153,7 @@ impl Display for Table {
     fn fmt(&self, f: &mut Formatter) -> fmt::Result {
         write!(f, "{:<30} {:>6}", "encoding", "length")?;
         for answer in 0..ANSWERS {
-            write!(f, " {answer:>6}")?;
+            write!(f, " {answer:>8}")?;
         }
         writeln!(f)?;
         for (row, name) in NAMES.iter().enumerate() {
@@ -148,11 +162,11 @@ impl Display for Table {
                 write_line(f, row, &self.counts[row][length])?;
             }
             let apart = self.other_length[row];
-            writeln!(f, "{name:<30} {:>6} {:>6} {apart:>6}", "other", "-")?;
+            writeln!(f, "{name:<30} {:>6} {:>8} {apart:>8}", "other", "-")?;
         }
         write!(f, "{:<30} {:>6}", "all", "")?;
         for answer in 0..ANSWERS {
-            write!(f, " {:>6}", self.answered(answer))?;
+            write!(f, " {:>8}", self.answered(answer))?;
         }
         writeln!(f)
     }
@@ -162,9 +176,9 @@ impl Display for Table {
 fn write_line(f: &mut Formatter, row: usize, line: &[u64; ANSWERS]) -> fmt::Result {
     for (answer, &count) in line.iter().enumerate() {
         if count == 0 && !can_occur(row, answer) {
-            write!(f, " {:>6}", "-")?;
+            write!(f, " {:>8}", "-")?;
         } else {
-            write!(f, " {count:>6}")?;
+            write!(f, " {count:>8}")?;
         }
     }
     writeln!(f)

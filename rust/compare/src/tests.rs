@@ -3,11 +3,14 @@
 use crate::arguments::Arguments;
 use crate::case::{Case, Outcome};
 use crate::counts::Counts;
+use crate::exhaustive::arguments as exhaustive;
+use crate::exhaustive::progress;
 use crate::generate::generate;
 use crate::table::Table;
 use second::execute::Mistake;
 use second::inputs::random::Random;
 use std::ffi::OsString;
+use std::time::Duration;
 
 fn read(line: &str) -> Result<Arguments, String> {
     Arguments::read(line.split_whitespace().map(OsString::from))
@@ -27,6 +30,50 @@ fn bad_arguments_are_errors() {
     for line in ["--seed", "--seed x", "--mistake Tile", "--other 1", "7"] {
         assert!(read(line).is_err(), "{line}");
     }
+}
+
+fn read_exhaustive(line: &str) -> Result<exhaustive::Arguments, String> {
+    exhaustive::Arguments::read(line.split_whitespace().map(OsString::from))
+}
+
+#[test]
+fn arguments_of_the_exhaustive_comparison_are_read() {
+    use exhaustive::Part::{Executions, Fields, Words};
+    let plain = read_exhaustive("").unwrap();
+    assert_eq!(plain.parts, [Words, Fields, Executions]);
+    assert_eq!((plain.from, plain.to), (0, u32::MAX));
+    assert_eq!(plain.draws.count, 10_000_000);
+    assert!(plain.workers.threads > 0);
+    let line = "--executions --words --from C0000000 --to c00000ff --count 5 --seed 1 --threads 3";
+    let all = read_exhaustive(line).unwrap();
+    assert_eq!(all.parts, [Words, Executions]);
+    assert_eq!((all.from, all.to), (0xC000_0000, 0xC000_00FF));
+    assert_eq!((all.draws.seed, all.draws.count), (1, 5));
+    assert_eq!(all.workers.threads, 3);
+}
+
+#[test]
+fn bad_arguments_of_the_exhaustive_comparison_are_errors() {
+    for line in [
+        "--from",
+        "--from 0",
+        "--to +0000001",
+        "--from 00000002 --to 00000001",
+        "--threads 0",
+        "--count many",
+        "--word",
+        "words",
+    ] {
+        assert!(read_exhaustive(line).is_err(), "{line}");
+    }
+}
+
+#[test]
+fn progress_tells_what_is_left() {
+    let line = progress::line("words", 1, 4, Duration::from_secs(25));
+    assert_eq!(line, "words: 25.0 % done, 1 min 15 s left");
+    let line = progress::line("words", 4, 4, Duration::from_secs(25));
+    assert_eq!(line, "words: 100.0 % done, 0 min 00 s left");
 }
 
 /// Sixty thousand cases, by the second program alone, leave nothing to

@@ -11,7 +11,7 @@ use std::fmt::{self, Display, Formatter};
 /// A situation: its name, how to know it, and how often it was met.
 struct Situation {
     name: String,
-    holds: Box<dyn Fn(&View) -> bool>,
+    holds: Box<dyn Fn(&View) -> bool + Send>,
     count: u64,
 }
 
@@ -33,7 +33,7 @@ impl Default for Situations {
 
 impl Situations {
     /// Names a situation that is to be met.
-    fn name(&mut self, name: impl Into<String>, holds: impl Fn(&View) -> bool + 'static) {
+    fn name(&mut self, name: impl Into<String>, holds: impl Fn(&View) -> bool + Send + 'static) {
         self.list.push(Situation {
             name: name.into(),
             holds: Box::new(holds),
@@ -50,6 +50,13 @@ impl Situations {
         }
     }
 
+    /// Takes the counts of other cases in; the list is the same for all.
+    pub fn merge(&mut self, other: Situations) {
+        for (own, other) in self.list.iter_mut().zip(&other.list) {
+            own.count += other.count;
+        }
+    }
+
     /// The situations that were not met.
     pub fn missing(&self) -> Vec<String> {
         let missing = self.list.iter().filter(|own| own.count == 0);
@@ -60,7 +67,7 @@ impl Situations {
 impl Display for Situations {
     fn fmt(&self, f: &mut Formatter) -> fmt::Result {
         for situation in &self.list {
-            writeln!(f, "{:>7}  {}", situation.count, situation.name)?;
+            writeln!(f, "{:>8}  {}", situation.count, situation.name)?;
         }
         Ok(())
     }
