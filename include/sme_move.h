@@ -59,27 +59,33 @@ enum sme_answer {
 #define SME_ZA_BYTES(vector_bytes) ((size_t)(vector_bytes) * (size_t)(vector_bytes))
 
 /*
- * An operation is eleven numbers; these are their places. What a kind does not have is 0.
+ * An operation is eleven numbers; these are their places. What a kind does not have is 0: an array kind has no
+ * element bytes, direction, tile and predicate, and only a store has a base and an offset register.
  */
 enum sme_field {
     /* one of enum sme_kind */
     SME_FIELD_KIND,
-    /* 1, 2, 4, 8 or 16 */
+    /* m: 1, 2, 4, 8 or 16; 1 for a store */
     SME_FIELD_ELEMENT_BYTES,
     /* 0 horizontal, 1 vertical */
     SME_FIELD_DIRECTION,
+    /* below m */
     SME_FIELD_TILE,
+    /* below 16 / m; below 8 for an array kind */
     SME_FIELD_OFFSET,
-    /* the number of the register that the slice or vector number is taken from */
+    /* the number of the register that the slice or vector number is taken from: 12 to 15; 8 to 11 for an array kind */
     SME_FIELD_INDEX_REGISTER,
+    /* 0 to 7; a move and zero has none */
     SME_FIELD_PREDICATE,
+    /* 0 to 31, a multiple of the number of vector registers; a store has none */
     SME_FIELD_FIRST_VECTOR_REGISTER,
-    /* of a store; 31 is the stack pointer */
+    /* 0 to 31; 31 is the stack pointer */
     SME_FIELD_BASE_REGISTER,
-    /* of a store; 31 reads as zero */
+    /* 0 to 31; 31 reads as zero */
     SME_FIELD_OFFSET_REGISTER,
-    /* 1, 2 or 4; 0 for a store */
+    /* 1 for a tile's slice, 4 for a move from the array, 2 for a move and zero from it; 0 for a store */
     SME_FIELD_VECTOR_REGISTERS,
+    /* how many fields there are */
     SME_FIELD_COUNT
 };
 
@@ -105,7 +111,7 @@ enum sme_kind {
  * za_on           whether ZA is on
  * memory_address  the address of memory's first byte
  * word            the instruction word
- * x, x_count      32 general-purpose registers, number 31 the stack pointer; read only
+ * x, x_count      31 general-purpose registers and, as number 31, the stack pointer; read only
  * z, z_bytes      32 vector registers of B bytes, one after another
  * p, p_bytes      16 predicate registers of B/8 bytes, one after another, a bit for each byte of a
  *                 vector, lowest first; read only
@@ -182,7 +188,7 @@ typedef struct sme_buffers {
 
 /*
  * Settings of this vector length and level, with both switches off and memory at address 0. They are not
- * checked here: sme_settings_check does, and so does every call that takes them.
+ * checked here: sme_settings_check does, and so does execution.
  */
 static inline sme_settings sme_settings_new(uint64_t vector_bytes, uint64_t level)
 {
@@ -223,7 +229,7 @@ static inline const char *sme_answer_text(uint32_t answer)
     case SME_BAD_SETTINGS:
         return "the vector length or the level is not allowed";
     case SME_BAD_LENGTHS:
-        return "a buffer has the wrong length";
+        return "a buffer has the wrong length, or memory ends above 2^64";
     case SME_UNDECODABLE:
         return "the word is no instruction of this level";
     case SME_STREAMING_OFF:
@@ -247,13 +253,13 @@ static inline uint32_t sme_settings_check(sme_settings settings)
     return sme_check_settings(settings.vector_bytes, settings.level);
 }
 
-/* sme_lengths for these settings. */
+/* sme_lengths for the vector length of these settings, which alone is checked. */
 static inline uint32_t sme_settings_lengths(sme_settings settings, uint64_t *lengths)
 {
     return sme_lengths(settings.vector_bytes, lengths);
 }
 
-/* sme_decode at the level of these settings. */
+/* sme_decode at the level of these settings, which alone is checked. */
 static inline uint32_t sme_settings_decode(sme_settings settings, uint32_t word, uint8_t *fields)
 {
     return sme_decode(word, settings.level, fields);

@@ -8,10 +8,20 @@
 /* A machine's buffers, and copies that say what they should hold after the call. */
 typedef struct machine {
     sme_settings settings;
-    uint64_t x[SME_X_COUNT];
-    guarded z, p, za, memory;
+    guarded x, z, p, za, memory;
     uint8_t *wanted_z, *wanted_za, *wanted_memory;
 } machine;
+
+/* The lengths of a machine's buffers, in bytes. */
+typedef struct lengths {
+    size_t x, z, p, za, memory;
+} lengths;
+
+static lengths right_lengths(uint64_t vector_bytes, size_t memory_bytes)
+{
+    return (lengths){SME_X_COUNT * sizeof(uint64_t), SME_Z_BYTES(vector_bytes), SME_P_BYTES(vector_bytes),
+                     SME_ZA_BYTES(vector_bytes), memory_bytes};
+}
 
 static uint8_t *copy_of(const guarded *buffer)
 {
@@ -21,33 +31,42 @@ static uint8_t *copy_of(const guarded *buffer)
     return copy;
 }
 
-/* Level 3, both switches on, every predicate bit set, memory of so many bytes at address 1000 hex. */
-static machine machine_new(uint64_t vector_bytes, size_t memory_bytes)
+/* Level 3, both switches on, every predicate bit set, memory at address 1000 hex. */
+static machine machine_with(uint64_t vector_bytes, lengths bytes)
 {
     machine made;
     made.settings = sme_settings_new(vector_bytes, 3);
     made.settings = sme_settings_with_streaming(made.settings, true);
     made.settings = sme_settings_with_za(made.settings, true);
     made.settings = sme_settings_with_memory_address(made.settings, 0x1000);
-    for (size_t i = 0; i < SME_X_COUNT; i++) {
-        made.x[i] = 1000 + i;
-    }
-    made.z = guarded_new(SME_Z_BYTES(vector_bytes), 11);
-    made.p = guarded_new(SME_P_BYTES(vector_bytes), 0);
+    made.x = guarded_new(bytes.x, 50);
+    made.z = guarded_new(bytes.z, 11);
+    made.p = guarded_new(bytes.p, 0);
     memset(made.p.bytes, 0xFF, made.p.length);
-    made.za = guarded_new(SME_ZA_BYTES(vector_bytes), 97);
-    made.memory = guarded_new(memory_bytes, 200);
+    made.za = guarded_new(bytes.za, 97);
+    made.memory = guarded_new(bytes.memory, 200);
     made.wanted_z = copy_of(&made.z);
     made.wanted_za = copy_of(&made.za);
     made.wanted_memory = copy_of(&made.memory);
     return made;
 }
 
-static sme_buffers lend(const machine *own, const guarded *x)
+static machine machine_new(uint64_t vector_bytes, size_t memory_bytes)
+{
+    return machine_with(vector_bytes, right_lengths(vector_bytes, memory_bytes));
+}
+
+static void set_x(machine *own, size_t number, uint64_t value)
+{
+    memcpy(own->x.bytes + number * sizeof value, &value, sizeof value);
+}
+
+/* An empty memory is lent as (NULL, 0). */
+static sme_buffers lend(const machine *own)
 {
     sme_buffers buffers;
-    buffers.x = (const uint64_t *)(const void *)x->bytes;
-    buffers.x_count = SME_X_COUNT;
+    buffers.x = (const uint64_t *)(const void *)own->x.bytes;
+    buffers.x_count = own->x.length / sizeof(uint64_t);
     buffers.z = own->z.bytes;
     buffers.z_bytes = own->z.length;
     buffers.p = own->p.bytes;
@@ -59,22 +78,9 @@ static sme_buffers lend(const machine *own, const guarded *x)
     return buffers;
 }
 
-/* Calls with these buffers, and holds answer, address and every byte to what is wanted. */
-static void call(machine *own, uint32_t word, sme_buffers buffers, uint32_t wanted, uint64_t wanted_address)
-{
-    uint64_t address = UINT64_C(0x5A5A5A5A5A5A5A5A);
-    uint32_t answer = sme_settings_execute(own->settings, word, buffers, &address);
-    CHECK_EQUAL(answer, wanted);
-    CHECK_EQUAL(address, wanted_address);
-    CHECK(guarded_check(&own->z) && guarded_check(&own->za) && guarded_check(&own->memory));
-    CHECK(memcmp(own->z.bytes, own->wanted_z, own->z.length) == 0);
-    CHECK(memcmp(own->za.bytes, own->wanted_za, own->za.length) == 0);
-    CHECK(memcmp(own->memory.bytes, own->wanted_memory, own->memory.length) == 0);
-    seen[EXECUTE][answer]++;
-}
-
 static void machine_free(machine *own)
 {
+    guarded_free(&own->x);
     guarded_free(&own->z);
     guarded_free(&own->p);
     guarded_free(&own->za);
@@ -84,15 +90,25 @@ static void machine_free(machine *own)
     free(own->wanted_memory);
 }
 
-/* Executes with buffers of the right lengths; X and P can't be written. */
+/* Executes, X and P on pages that can't be written, and holds answer, address and every byte to what is wanted. */
 static void expect(machine *own, uint32_t word, uint32_t wanted, uint64_t wanted_address)
 {
-    guarded x = guarded_new(sizeof own->x, 0);
-    memcpy(x.bytes, own->x, sizeof own->x);
-    guarded_read_only(&x);
+    guarded result = guarded_new(sizeof(uint64_t), 33);
+    guarded_read_only(&own->x);
     guarded_read_only(&own->p);
-    call(own, word, lend(own, &x), wanted, wanted_address);
-    guarded_free(&x);
+    uint32_t answer =
+        sme_settings_execute(own->settings, word, lend(own), (uint64_t *)(void *)result.bytes);
+    uint64_t address;
+    memcpy(&address, result.bytes, sizeof address);
+    CHECK_EQUAL(answer, wanted);
+    CHECK_EQUAL(address, wanted_address);
+    CHECK(guarded_check(&own->z) && guarded_check(&own->za) && guarded_check(&own->memory));
+    CHECK(guarded_check(&result));
+    CHECK(memcmp(own->z.bytes, own->wanted_z, own->z.length) == 0);
+    CHECK(memcmp(own->za.bytes, own->wanted_za, own->za.length) == 0);
+    CHECK(memcmp(own->memory.bytes, own->wanted_memory, own->memory.length) == 0);
+    seen[EXECUTE][answer]++;
+    guarded_free(&result);
     machine_free(own);
 }
 
@@ -100,12 +116,12 @@ static void expect(machine *own, uint32_t word, uint32_t wanted, uint64_t wanted
 static void done_tests(uint64_t b)
 {
     machine own = machine_new(b, 0);
-    own.x[12] = b + 3;
+    set_x(&own, 12, b + 3);
     memcpy(own.wanted_za + 3 * b, own.z.bytes, b);
     expect(&own, 0xC0000000, SME_DONE, 0);
 
     own = machine_new(b, 0);
-    own.x[12] = 2;
+    set_x(&own, 12, 2);
     for (size_t e = 0; e < b / 4; e++) {
         uint8_t *element = own.wanted_za + (4 * e + 1) * b + 2 * 4;
         memcpy(own.wanted_z + 7 * b + 4 * e, element, 4);
@@ -114,14 +130,14 @@ static void done_tests(uint64_t b)
     expect(&own, 0xC0828287, SME_DONE, 0);
 
     own = machine_new(b, 0);
-    own.x[10] = b - 6;
+    set_x(&own, 10, b - 6);
     for (size_t v = 0; v < 4; v++) {
         memcpy(own.wanted_z + (28 + v) * b, own.za.bytes + (1 + v * (b / 4)) * b, b);
     }
     expect(&own, 0xC0064CFC, SME_DONE, 0);
 
     own = machine_new(b, 0);
-    own.x[8] = b - 2;
+    set_x(&own, 8, b - 2);
     for (size_t v = 0; v < 2; v++) {
         memcpy(own.wanted_z + (10 + v) * b, own.za.bytes + (1 + v * (b / 2)) * b, b);
         memset(own.wanted_za + (1 + v * (b / 2)) * b, 0, b);
@@ -129,9 +145,9 @@ static void done_tests(uint64_t b)
     expect(&own, 0xC0060A6A, SME_DONE, 0);
 
     own = machine_new(b, b + 5);
-    own.x[1] = 0xF00;
-    own.x[2] = 0x105;
-    own.x[12] = 4;
+    set_x(&own, 1, 0xF00);
+    set_x(&own, 2, 0x105);
+    set_x(&own, 12, 4);
     memcpy(own.wanted_memory + 5, own.za.bytes + 4 * b, b);
     expect(&own, 0xE0220020, SME_DONE, 0);
 }
@@ -145,9 +161,13 @@ static void refused_tests(uint64_t b)
         high.settings.level = levels[i];
         expect(&high, 0xC0000000, SME_BAD_SETTINGS, 0);
     }
-    machine own = machine_new(b, 8);
-    own.settings.vector_bytes = b + 1;
-    expect(&own, 0xC0000000, SME_BAD_SETTINGS, 0);
+    static const uint64_t more[] = {1, UINT64_C(1) << 16, UINT64_C(1) << 32};
+    for (size_t i = 0; i < sizeof more / sizeof more[0]; i++) {
+        machine longer = machine_new(b, 8);
+        longer.settings.vector_bytes = b + more[i];
+        expect(&longer, 0xC0000000, SME_BAD_SETTINGS, 0);
+    }
+    machine own;
 
     own = machine_new(b, 8);
     expect(&own, 0xC0000010, SME_UNDECODABLE, 0);
@@ -163,40 +183,37 @@ static void refused_tests(uint64_t b)
     expect(&own, 0xC0000000, SME_ZA_OFF, 0);
 
     own = machine_new(b, 8);
-    own.x[31] = 0x1008;
+    set_x(&own, 31, 0x1008);
     expect(&own, 0xE03F03E0, SME_STACK_MISALIGNED, 0);
 
     /* the last element's byte is the one behind memory; and with no memory at all */
     own = machine_new(b, b - 1);
-    own.x[1] = 0x1000;
-    own.x[2] = 0;
+    set_x(&own, 1, 0x1000);
+    set_x(&own, 2, 0);
     expect(&own, 0xE0220020, SME_OUTSIDE_MEMORY, 0x1000 + b - 1);
     own = machine_new(b, 0);
-    own.x[1] = UINT64_C(0) - 8;
-    own.x[2] = 4;
+    set_x(&own, 1, UINT64_C(0) - 8);
+    set_x(&own, 2, 4);
     expect(&own, 0xE0220020, SME_OUTSIDE_MEMORY, UINT64_C(0xFFFFFFFFFFFFFFFC));
 }
 
-/* Answer 2: each length by one too short, and memory that ends above 2^64. */
+/* Answer 2: each length by one item too short and too long, and memory that ends above 2^64. */
 static void length_tests(uint64_t b)
 {
-    for (int wrong = 0; wrong < 5; wrong++) {
-        machine own = machine_new(b, 16);
-        guarded x = guarded_new(sizeof own.x, 0);
-        sme_buffers buffers = lend(&own, &x);
-        size_t *lengths[] = {&buffers.x_count, &buffers.z_bytes, &buffers.p_bytes, &buffers.za_bytes};
-        if (wrong < 4) {
-            (*lengths[wrong])--;
-        } else {
-            own.settings.memory_address = UINT64_C(0) - 15;
-        }
-        call(&own, 0xC0000000, buffers, SME_BAD_LENGTHS, 0);
-        guarded_free(&x);
-        machine_free(&own);
+    for (int wrong = 0; wrong < 8; wrong++) {
+        lengths bytes = right_lengths(b, 16);
+        size_t *each[] = {&bytes.x, &bytes.z, &bytes.p, &bytes.za};
+        size_t item = wrong / 2 == 0 ? sizeof(uint64_t) : 1;
+        *each[wrong / 2] += wrong % 2 == 0 ? item : (size_t)0 - item;
+        machine own = machine_with(b, bytes);
+        expect(&own, 0xC0000000, SME_BAD_LENGTHS, 0);
     }
+    machine own = machine_new(b, 16);
+    own.settings.memory_address = UINT64_C(0) - 15;
+    expect(&own, 0xC0000000, SME_BAD_LENGTHS, 0);
     machine top = machine_new(b, 16);
     top.settings.memory_address = UINT64_C(0) - 16;
-    top.x[12] = 0;
+    set_x(&top, 12, 0);
     memcpy(top.wanted_za, top.z.bytes, b);
     expect(&top, 0xC0000000, SME_DONE, 0);
 }

@@ -1,6 +1,6 @@
 /*
- * Buffers of exact length between guard bytes, against a page that may not be touched at all: a write
- * beside the buffer is found by guarded_check or ends the program, a read behind it ends the program.
+ * Buffers of exact length between guard bytes and pages that may not be touched at all: a write beside the
+ * buffer is found by guarded_check or ends the program, a read beside it at the touching end ends the program.
  */
 #ifndef GUARDED_H
 #define GUARDED_H
@@ -15,6 +15,9 @@ typedef struct guarded {
     uint8_t *bytes;
     size_t length;
 } guarded;
+
+/* Whether buffers made from now on touch the forbidden page before them, and not the one behind. */
+extern bool guarded_touch_front;
 
 /* A buffer whose bytes differ from their neighbours and from those of other seeds. */
 guarded guarded_new(size_t length, uint8_t seed);

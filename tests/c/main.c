@@ -1,5 +1,6 @@
 /* Calls every exported function through the header, with every answer that it can give. */
 #include "check.h"
+#include "guarded.h"
 #include "sme_move.h"
 
 #include <string.h>
@@ -35,9 +36,12 @@ static void report(void)
 
 int main(void)
 {
-    settings_tests();
-    word_tests();
-    execute_tests();
+    for (int front = 0; front < 2; front++) {
+        guarded_touch_front = front == 1;
+        settings_tests();
+        word_tests();
+        execute_tests();
+    }
     for (uint32_t answer = 0; answer <= SME_OUT_OF_RANGE; answer++) {
         CHECK(strcmp(sme_answer_text(answer), sme_answer_text(9)) != 0);
     }

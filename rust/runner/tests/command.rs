@@ -4,7 +4,7 @@ mod common;
 
 use common::{piped, runner};
 use std::fs::File;
-use std::io::Read;
+use std::io::Write;
 use std::process::{Output, Stdio};
 
 const SCRIPT: &[u8] =
@@ -84,21 +84,22 @@ fn colour_is_for_terminals_unless_asked_for() {
 
 #[test]
 fn a_closed_pipe_ends_the_program_quietly() {
-    let mut child = runner(&["--map", "--vector-bytes", "256"])
+    let mut child = runner(&["-"])
+        .stdin(Stdio::piped())
         .stdout(Stdio::piped())
         .stderr(Stdio::piped())
         .spawn()
         .expect("the program starts");
+    // It writes nothing before it has read its script, and that comes after the pipe is closed.
     drop(child.stdout.take());
-    let mut message = String::new();
-    let mut errors = child.stderr.take().expect("standard error is piped");
-    errors
-        .read_to_string(&mut message)
-        .expect("the message is text");
+    let mut script = child.stdin.take().expect("standard input is piped");
+    script.write_all(SCRIPT).expect("the script is read");
+    drop(script);
+    let output = child.wait_with_output().expect("the program ends");
     assert_eq!(
         (
-            child.wait().expect("the program ends").code(),
-            message.as_str()
+            output.status.code(),
+            String::from_utf8_lossy(&output.stderr).as_ref()
         ),
         (Some(1), "")
     );

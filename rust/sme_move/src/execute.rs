@@ -6,7 +6,7 @@ use crate::settings::Settings;
 
 /// The buffers that a host lends for one call, none of which overlap.
 pub struct Buffers<'a> {
-    /// The 32 general-purpose registers; number 31 is the stack pointer.
+    /// The 31 general-purpose registers and, as number 31, the stack pointer.
     pub x: &'a [u64],
     /// The 32 vector registers, one after another.
     pub z: &'a mut [u8],
@@ -95,6 +95,7 @@ impl State {
 }
 
 fn register(bytes: &mut [u8], count: usize, number: usize) -> &mut [u8] {
+    assert!(number < count, "there is no register {number}");
     let length = bytes.len() / count;
     assert_eq!(
         length * count,

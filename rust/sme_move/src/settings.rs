@@ -3,8 +3,7 @@
 use crate::answer::Refusal;
 use crate::numbers;
 
-/// The settings of one machine. Any numbers can be in the fields, so every call that takes settings
-/// checks them.
+/// The settings of one machine. Any numbers can be in the fields, so execution checks them again.
 #[derive(Clone, Copy, Debug, PartialEq, Eq, Hash)]
 #[non_exhaustive]
 pub struct Settings {
@@ -78,7 +77,7 @@ impl Settings {
         self
     }
 
-    /// The lengths that buffers must have.
+    /// The lengths that buffers must have. Only the vector length counts, and is checked.
     ///
     /// ```
     /// use sme_move::Settings;
