@@ -2,10 +2,10 @@
 -- Assumes nothing.
 use mathlib.Core.Path.{refl, sym}
 use Rattle.encoding.specs.Claims.{EncodeInvertsDecode, DecodeInvertsEncode, HigherLevelDecodesSame, rowAt, FitsOneRow, FittingDecodes, UnflattenInvertsFlatten, FlattenInvertsUnflatten, EncodeFlatInvertsDecode, DecodeInvertsEncodeFlat}
-use Rattle.encoding.specs.Examples.{examples, flatExamples, WordsHold}
-use Rattle.encoding.specs.Flat.{flatOf}
+use Rattle.encoding.specs.Examples.{examples, flatExamples, outOfRangeExamples, WordsHold}
+use Rattle.encoding.specs.Flat.{flatOf, unflattenOf}
 use Rattle.encoding.specs.Table.{table}
-use Rattle.encoding.specs.Codec.{decodeOf, decodeAnswer, rowOfWord}
+use Rattle.encoding.specs.Codec.{decodeOf, decodeAnswer, encodeOf, rowOfWord, rowOfNumbers}
 use Rattle.encoding.proofs.CodecLaws as laws
 use Rattle.encoding.proofs.FlatLaws.{names, named-by}
 use Rattle.encoding.proofs.TableLaws.{fits-one, row-listed}
@@ -39,5 +39,5 @@ decode-inverts-encode-flat = laws.decode-inverts-encode-flat
 
 -- computed
 pub words-hold : WordsHold
-unfolding examples flatExamples decodeOf decodeAnswer rowOfWord table
-words-hold = record { decoded = refl; flattened = refl }
+unfolding examples flatExamples outOfRangeExamples unflattenOf decodeOf decodeAnswer encodeOf rowOfWord rowOfNumbers table
+words-hold = record { decoded = refl; flattened = refl; outOfRange = refl }

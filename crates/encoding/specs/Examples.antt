@@ -1,13 +1,14 @@
 -- The worked examples of 01 §7 marked *, as far as they speak of words: the part of the one claim about them
--- (specs/Examples.antt of the crate execute) that says what the words mean. To believe: the two lists.
+-- (specs/Examples.antt of the crate execute) that says what the words mean, with 11. To believe: the three lists.
 -- Assumes nothing.
 use Prim.Native.Nat.{ℕ}
 use mathlib.Core.Path.{_≡_}
 use mathlib.Core.List.{List, [], _∷_, map}
+use lib.ListN.{replicate}
 use Rattle.settings.specs.Answer.{done}
 use Rattle.settings.specs.Settings.{maxLevel}
-use Rattle.encoding.specs.Answer.{answerWith}
-use Rattle.encoding.specs.Codec.{decodeOf, decodeAnswer}
+use Rattle.encoding.specs.Answer.{answerWith, encodedAnswer}
+use Rattle.encoding.specs.Codec.{decodeOf, decodeAnswer, encodeFlatOf}
 use Rattle.encoding.specs.declared.operation.ElementSize.the-variants.{Bits8, Bits32, Bits64, Bits128}
 use Rattle.encoding.specs.declared.operation.Direction.the-variants.{Horizontal, Vertical}
 use Rattle.encoding.specs.declared.operation.RegisterCount.the-variants.{Two, Four}
@@ -62,7 +63,17 @@ flatExamples =
     record { word = 0xE0220020; numbers = 5 ∷ 1 ∷ 0 ∷ 0 ∷ 0 ∷ 12 ∷ 0 ∷ 0 ∷ 1 ∷ 2 ∷ 0 ∷ [] } ∷
     []
 
--- each word decodes, at its level, to what the list says, and has the numbers that the second list says
+-- 11: a byte move with offset 16, a byte tile 1, four registers from register 2
+unfoldable pub outOfRangeExamples : List (List ℕ)
+outOfRangeExamples =
+    (1 ∷ 1 ∷ 0 ∷ 0 ∷ 16 ∷ 12 ∷ 0 ∷ 0 ∷ 0 ∷ 0 ∷ 1 ∷ []) ∷
+    (1 ∷ 1 ∷ 0 ∷ 1 ∷ 0 ∷ 12 ∷ 0 ∷ 0 ∷ 0 ∷ 0 ∷ 1 ∷ []) ∷
+    (3 ∷ 0 ∷ 0 ∷ 0 ∷ 0 ∷ 8 ∷ 0 ∷ 2 ∷ 0 ∷ 0 ∷ 4 ∷ []) ∷
+    []
+
+-- each word decodes, at its level, to what the list says, and has the numbers that the second list says; the
+-- numbers of the third list encode to 8, with word 0
 pub record WordsHold : Type 0 where
   pub decoded : map (λ (e : Example). decodeOf (e .word) (e .level)) examples ≡ map (λ (e : Example). e .gives) examples
   pub flattened : map (λ (e : FlatExample). decodeAnswer (e .word) maxLevel) flatExamples ≡ map (λ (e : FlatExample). answerWith done (e .numbers)) flatExamples
+  pub outOfRange : map (λ (ns : List ℕ). encodedAnswer (encodeFlatOf ns)) outOfRangeExamples ≡ replicate 3 (answerWith 8 (0 ∷ []))

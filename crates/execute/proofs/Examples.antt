@@ -19,7 +19,7 @@ use Rattle.tiles.proofs.Claims.{places-hold}
 use Rattle.execute.specs.Store.{least}
 use Rattle.execute.specs.Effect.{selected, movedToTile, takenFromTile, zeroedInTile, takenFromArray, zeroedInArray, stored}
 use Rattle.execute.specs.Execute.{storeAnswer, answerOf, executeOf}
-use Rattle.execute.specs.Examples.{Example1, Example2, Example3, Example4, Example5, Example6, Example7, Example8, Example9, Example10, ExamplesHold}
+use Rattle.execute.specs.Examples.{Example1, Example2, Example3, Example4, Example5, Example6, Example7, Example8, Example9, Example10, ExampleStore, Example12, ExamplesHold}
 
 row-1 : (B : ℕ) (x : List ℕ) → selected x 12 0 (B / bytesOf Bits8) ≡ getD x 12 0 % 2 ^ 32 % B
 row-1 B x = rw (div-one, add-zero)
@@ -49,15 +49,15 @@ example-5 = record { low = refl }
 
 example-6 : Example6
 unfolding table rowOfWord decodeOf isVectorLength scatter active byteOf sliceAt groupAt least movedToTile takenFromTile zeroedInTile takenFromArray zeroedInArray stored storeAnswer answerOf executeOf
-example-6 = record { slice = refl; moves = refl }
+example-6 = record { slice = refl; moves = refl; later = refl }
 
 example-7 : Example7
 unfolding table rowOfWord decodeOf isVectorLength scatter active byteOf sliceAt groupAt least movedToTile takenFromTile zeroedInTile takenFromArray zeroedInArray stored storeAnswer answerOf executeOf
-example-7 = record { first = refl; moves = refl }
+example-7 = record { first = refl; moves = refl; longer = refl }
 
 example-8 : Example8
 unfolding table rowOfWord decodeOf isVectorLength scatter active byteOf sliceAt groupAt least movedToTile takenFromTile zeroedInTile takenFromArray zeroedInArray stored storeAnswer answerOf executeOf
-example-8 = record { moves = refl; odd = refl }
+example-8 = record { moves = refl; odd = refl; longer = refl }
 
 example-9 : Example9
 unfolding table rowOfWord decodeOf isVectorLength scatter active byteOf sliceAt groupAt least movedToTile takenFromTile zeroedInTile takenFromArray zeroedInArray stored storeAnswer answerOf executeOf
@@ -66,6 +66,14 @@ example-9 = record { active = refl; none = refl; aligned = refl }
 example-10 : Example10
 unfolding table rowOfWord decodeOf isVectorLength scatter active byteOf sliceAt groupAt least movedToTile takenFromTile zeroedInTile takenFromArray zeroedInArray stored storeAnswer answerOf executeOf
 example-10 = record { all = refl; some = refl; later = refl }
+
+example-store : ExampleStore
+unfolding table rowOfWord decodeOf isVectorLength scatter active byteOf sliceAt groupAt least movedToTile takenFromTile zeroedInTile takenFromArray zeroedInArray stored storeAnswer answerOf executeOf
+example-store = record { inside = refl; outside = refl }
+
+example-12 : Example12
+unfolding table rowOfWord decodeOf isVectorLength scatter active byteOf sliceAt groupAt least movedToTile takenFromTile zeroedInTile takenFromArray zeroedInArray stored storeAnswer answerOf executeOf
+example-12 = record { both = refl; za = refl; level = refl }
 
 pub examples-hold : ExamplesHold
 examples-hold =
@@ -82,4 +90,6 @@ examples-hold =
       example8 = example-8;
       example9 = example-9;
       example10 = example-10;
+      exampleStore = example-store;
+      example12 = example-12;
     }

@@ -1,6 +1,6 @@
 -- Laws of specs/Execute.antt: what a done answer says, and that a refusal changes nothing.
 -- Assumes nothing.
-use Prim.Native.Nat.{ℕ, _+_, _*_, _/_, _^_, _≤_}
+use Prim.Native.Nat.{ℕ, _+_, _^_, _≤_}
 use mathlib.Core.Path.{_≡_, refl, ap, _∙_}
 use mathlib.Core.Bool.{Bool, true, false, _&&_, and-eq-true-iff}
 use mathlib.Core.List.{List}
@@ -9,7 +9,7 @@ use native.Mathlib.Omega.{arith}
 use lib.Dec.{eqb, leb}
 use lib.ListN.{length}
 use borrow.Author.Tests.{eqb-true, leb-true}
-use Rattle.settings.specs.Settings.{isVectorLength, validSettings, maxLevel}
+use Rattle.settings.specs.Settings.{isVectorLength, validSettings, maxLevel, xNumbers, zBytes, pBytes, zaBytes}
 use Rattle.settings.specs.declared.Settings.{Settings}
 use Rattle.encoding.specs.Codec.{decodeOf}
 use Rattle.encoding.specs.declared.operation.Operation.{Operation}
@@ -49,18 +49,18 @@ guard-done false r rest n e = absurd (n e)
 -- ---- a done answer
 
 pub record Lengths (s : Settings) (lx lz lp lza lm : ℕ) : Type 0 where
-  pub x : lx ≡ 32
-  pub z : lz ≡ 32 * s .«vector_bytes»
-  pub p : lp ≡ 16 * (s .«vector_bytes» / 8)
-  pub za : lza ≡ s .«vector_bytes» * s .«vector_bytes»
+  pub x : lx ≡ xNumbers
+  pub z : lz ≡ zBytes (s .«vector_bytes»)
+  pub p : lp ≡ pBytes (s .«vector_bytes»)
+  pub za : lza ≡ zaBytes (s .«vector_bytes»)
   pub memory : s .«memory_address» + lm ≤ 2 ^ 64
 
 pub lengths-facts : (s : Settings) (lx lz lp lza lm : ℕ) → validLengths s lx lz lp lza lm ≡ true → Lengths s lx lz lp lza lm
 lengths-facts s lx lz lp lza lm e =
-    let a = eqb lx 32 in
-    let b = eqb lz (32 * s .«vector_bytes») in
-    let c = eqb lp (16 * (s .«vector_bytes» / 8)) in
-    let d = eqb lza (s .«vector_bytes» * s .«vector_bytes») in
+    let a = eqb lx xNumbers in
+    let b = eqb lz (zBytes (s .«vector_bytes»)) in
+    let c = eqb lp (pBytes (s .«vector_bytes»)) in
+    let d = eqb lza (zaBytes (s .«vector_bytes»)) in
     let f = leb (s .«memory_address» + lm) (2 ^ 64) in
     let h = and-eq-true-iff (a && b && c && d) f .0 e in
     let g = and-eq-true-iff (a && b && c) d .0 (h .0) in

@@ -5,6 +5,7 @@ use Prim.Native.Nat.{ℕ, _+_, _*_, _-_, _/_, _%_, _^_}
 use mathlib.Core.List.{List}
 use lib.ListN.{getD}
 use Rattle.encoding.specs.Flat.{bytesOf, registersOf}
+use Rattle.encoding.specs.declared.operation.ElementSize.{ElementSize}
 use Rattle.encoding.specs.declared.operation.VectorToTile.{VectorToTile}
 use Rattle.encoding.specs.declared.operation.TileToVector.{TileToVector}
 use Rattle.encoding.specs.declared.operation.ArrayToVectors.{ArrayToVectors}
@@ -28,15 +29,18 @@ abbrev pub selected : List ℕ → ℕ → ℕ → ℕ → ℕ
 selected x register offset n = (getD x register 0 % 2 ^ 32 + offset) % n
 
 module _ (S B : ℕ) (x p : List ℕ) where
-  -- the slice that a tile move names, of B / m
+  -- the slice that a register and an offset name, of B / m
+  abbrev pub sliceNumberOf : ElementSize → ℕ → ℕ → ℕ
+  sliceNumberOf size register offset = selected x register offset (B / bytesOf size)
+
   abbrev pub sliceIn : VectorToTile → ℕ
-  sliceIn o = selected x (o .rs) (o .off) (B / bytesOf (o .size))
+  sliceIn o = sliceNumberOf (o .size) (o .rs) (o .off)
 
   abbrev pub sliceOut : TileToVector → ℕ
-  sliceOut o = selected x (o .rs) (o .off) (B / bytesOf (o .size))
+  sliceOut o = sliceNumberOf (o .size) (o .rs) (o .off)
 
   abbrev pub sliceStored : TileToMemory → ℕ
-  sliceStored o = selected x (o .rs) (o .imm) (B / bytesOf (o .size))
+  sliceStored o = sliceNumberOf (o .size) (o .rs) (o .imm)
 
   -- the vectors that an array move names, the first of them below B / r
   abbrev pub group : ArrayToVectors → List ℕ

@@ -1,9 +1,9 @@
 -- The worked examples of 01 §7 marked *, in full, as one claim: what the words mean, where the bytes lie, and what execution
--- gives. To believe: what each part says (the first two parts stand where words and places do), and the buffers.
+-- gives; with 12, and parts beyond 01's sentences that are marked so. To believe: what each part says (the first two parts stand where words and places do), and the buffers.
 -- Assumes nothing.
 use Prim.Native.Nat.{ℕ, zero, suc, _+_, _*_, _-_, _/_, _%_, _^_}
 use mathlib.Core.Path.{_≡_}
-use mathlib.Core.Bool.{Bool, true, cond, not}
+use mathlib.Core.Bool.{Bool, true, false, cond, not}
 use mathlib.Core.List.{List, [], _∷_, _++_, map}
 use lib.Dec.{eqb}
 use lib.ListN.{getD, set, take, drop, replicate}
@@ -77,6 +77,16 @@ abbrev pub executedAt : ℕ → ℕ → Seen
 executedAt level w =
     seen (executeOf (record { «vector_bytes» = 16; level = level; streaming = true; za = true; «memory_address» = 0 }) w (bytesFrom 50 32) (ones 16) (stateAt 16 8))
 
+-- C0000000 at B 16 under a level and the two switches
+abbrev pub executedUnder : ℕ → Bool → Bool → Seen
+executedUnder level streaming za =
+    seen (executeOf (record { «vector_bytes» = 16; level = level; streaming = streaming; za = za; «memory_address» = 0 }) 0xC0000000 (bytesFrom 50 32) (ones 16) (stateAt 16 8))
+
+-- E022A823 at B 32 with n bytes of memory at 1000 hex
+abbrev pub storedAt : ℕ → Seen
+storedAt n =
+    seen (executeOf (settingsAt 32 0x1000) 0xE022A823 (set (set (xWith 13 20) 1 0xFF0) 2 0x18) (replicate 8 255 ++ (replicate 4 0x55 ++ replicate 52 255)) (stateAt 32 n))
+
 -- a buffer of n vectors of B bytes, given by vector
 abbrev pub vectors : ℕ → ℕ → (ℕ → List ℕ) → List ℕ
 vectors B zero f = []
@@ -128,12 +138,19 @@ pub record Example6 : Type 0 where
   pub moves : executed 64 0xC0C2E3BF 8 (xWith 15 4294967295) (ones 64) ≡
       doneWith (take (31 * 64) (zAt 64) ++ vectors 8 8 (λ e. take 8 (vectorIn (zaAt 64) 64 (8 * e + 6))))
       (vectors 64 64 (λ v. cond (eqb (v % 8) 6) (replicate 8 0 ++ drop 8 (vectorIn (zaAt 64) 64 v)) (vectorIn (zaAt 64) 64 v))) (memoryOf 8)
+  -- beyond 01's sentence: W15 = 12, so slice 5, which is bytes 40 to 47 of each vector
+  pub later : executed 64 0xC0C2E3BF 8 (xWith 15 12) (ones 64) ≡
+      doneWith (take (31 * 64) (zAt 64) ++ vectors 8 8 (λ e. take 8 (drop 40 (vectorIn (zaAt 64) 64 (8 * e + 6)))))
+      (vectors 64 64 (λ v. cond (eqb (v % 8) 6) (take 40 (vectorIn (zaAt 64) 64 v) ++ (replicate 8 0 ++ drop 48 (vectorIn (zaAt 64) 64 v))) (vectorIn (zaAt 64) 64 v))) (memoryOf 8)
 
 -- C0064CFC: W10, offset 7; B 16, W10 = 2: vectors 1, 5, 9, 13 to Z28 to Z31
 pub record Example7 : Type 0 where
   pub first : selected (xWith 10 2) 10 7 (16 / 4) ≡ 1
   pub moves : executed 16 0xC0064CFC 8 (xWith 10 2) (ones 16) ≡
       doneWith (take (28 * 16) (zAt 16) ++ (vectorIn (zaAt 16) 16 1 ++ (vectorIn (zaAt 16) 16 5 ++ (vectorIn (zaAt 16) 16 9 ++ vectorIn (zaAt 16) 16 13)))) (zaAt 16) (memoryOf 8)
+  -- beyond 01's sentence: B 32, W10 = 22: vectors 5, 13, 21, 29
+  pub longer : executed 32 0xC0064CFC 8 (xWith 10 22) (ones 32) ≡
+      doneWith (take (28 * 32) (zAt 32) ++ (vectorIn (zaAt 32) 32 5 ++ (vectorIn (zaAt 32) 32 13 ++ (vectorIn (zaAt 32) 32 21 ++ vectorIn (zaAt 32) 32 29)))) (zaAt 32) (memoryOf 8)
 
 -- C0060A6A: W8, offset 3; B 16, W8 = 6: vectors 1 and 9 to Z10 and Z11, both then zero. C0060A01 gives 3
 pub record Example8 : Type 0 where
@@ -141,6 +158,10 @@ pub record Example8 : Type 0 where
       doneWith (take 160 (zAt 16) ++ (vectorIn (zaAt 16) 16 1 ++ (vectorIn (zaAt 16) 16 9 ++ drop 192 (zAt 16))))
       (take 16 (zaAt 16) ++ (replicate 16 0 ++ (take 112 (drop 32 (zaAt 16)) ++ (replicate 16 0 ++ drop 160 (zaAt 16))))) (memoryOf 8)
   pub odd : executedAt 3 0xC0060A01 ≡ refusedWith 16 8 3 0
+  -- beyond 01's sentence: B 32, W8 = 24: vectors 11 and 27
+  pub longer : executed 32 0xC0060A6A 8 (xWith 8 24) (ones 32) ≡
+      doneWith (take 320 (zAt 32) ++ (vectorIn (zaAt 32) 32 11 ++ (vectorIn (zaAt 32) 32 27 ++ drop 384 (zAt 32))))
+      (vectors 32 32 (λ v. cond (eqb (v % 16) 11) (replicate 32 0) (vectorIn (zaAt 32) 32 v))) (memoryOf 8)
 
 -- E03F03E0, stack pointer 1008 hex, an active element: 6. None active: done, nothing written
 pub record Example9 : Type 0 where
@@ -160,6 +181,19 @@ pub record Example10 : Type 0 where
   -- beyond 01's sentence: where only a later element faults, nothing is written either
   pub later : executed 16 0xE0220020 64 (set (set (xWith 12 5) 1 56) 2 0) (ones 16) ≡ refusedWith 16 64 7 64
 
+-- beyond 01's examples: E022A823 is a vertical store, W13, P2, X1, X2, offset 3. B 32, W13 = 20: column 23; memory at 1000 hex, the
+-- first byte at 1008 hex, elements 0, 2, 4, .. active. With 64 bytes of memory it is done, with 28 element 20 is outside
+pub record ExampleStore : Type 0 where
+  pub inside : storedAt 64 ≡
+      doneWith (zAt 32) (zaAt 32) (take 8 (memoryOf 64) ++ (alternate true (vectors 1 32 (λ e. take 1 (drop 23 (vectorIn (zaAt 32) 32 e)))) (drop 8 (memoryOf 64)) ++ drop 40 (memoryOf 64)))
+  pub outside : storedAt 28 ≡ refusedWith 32 28 7 0x101C
+
+-- 12, and the other checks of settings: C0000000 at level 1 with both switches off gives 4, with ZA off 5; level 4 gives 1
+pub record Example12 : Type 0 where
+  pub both : executedUnder 1 false false ≡ refusedWith 16 8 4 0
+  pub za : executedUnder 1 true false ≡ refusedWith 16 8 5 0
+  pub level : executedUnder 4 true true ≡ refusedWith 16 8 1 0
+
 pub record ExamplesHold : Type 0 where
   pub words : WordsHold
   pub places : PlacesHold
@@ -173,3 +207,5 @@ pub record ExamplesHold : Type 0 where
   pub example8 : Example8
   pub example9 : Example9
   pub example10 : Example10
+  pub exampleStore : ExampleStore
+  pub example12 : Example12

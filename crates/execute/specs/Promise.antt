@@ -1,11 +1,11 @@
 -- What the functions of this crate promise.
 -- Assumes nothing.
-use Prim.Native.Nat.{ℕ, _*_, _/_, _≤_, _+_, _^_}
+use Prim.Native.Nat.{ℕ, _≤_, _+_, _^_}
 use mathlib.Core.Path.{_≡_}
 use mathlib.Core.Bool.{Bool, true, false}
 use mathlib.Core.List.{List}
 use lib.ListN.{length}
-use Rattle.settings.specs.Settings.{isVectorLength, validSettings}
+use Rattle.settings.specs.Settings.{isVectorLength, validSettings, xNumbers, zBytes, pBytes, zaBytes}
 use Rattle.settings.specs.declared.Settings.{Settings}
 use Rattle.encoding.specs.Range.{StoreInRange}
 use Rattle.encoding.specs.declared.operation.Operation.{Operation}
@@ -44,9 +44,9 @@ pub record Ready (s : Settings) (x p : List ℕ) (t : State) : Type 0 where
 -- what a store relies on: the check found nothing, and the operation was decoded
 pub record StoreReady (s : Settings) (lx lp lza lm : ℕ) (o : TileToMemory) : Type 0 where
   pub vector : isVectorLength (s .«vector_bytes») ≡ true
-  pub x : lx ≡ 32
-  pub p : lp ≡ 16 * (s .«vector_bytes» / 8)
-  pub za : lza ≡ s .«vector_bytes» * s .«vector_bytes»
+  pub x : lx ≡ xNumbers
+  pub p : lp ≡ pBytes (s .«vector_bytes»)
+  pub za : lza ≡ zaBytes (s .«vector_bytes»)
   pub memory : s .«memory_address» + lm ≤ 2 ^ 64
   pub range : StoreInRange o
 
@@ -59,10 +59,10 @@ pub record Stores (s : Settings) (x p za memory : List ℕ) (o : TileToMemory) (
 -- what moves rely on: a vector length, and the lengths that it fixes
 pub record Sized (B lx lz lp lza : ℕ) : Type 0 where
   pub vector : isVectorLength B ≡ true
-  pub x : lx ≡ 32
-  pub z : lz ≡ 32 * B
-  pub p : lp ≡ 16 * (B / 8)
-  pub za : lza ≡ B * B
+  pub x : lx ≡ xNumbers
+  pub z : lz ≡ zBytes B
+  pub p : lp ≡ pBytes B
+  pub za : lza ≡ zaBytes B
 
 -- performing a decoded operation: the answer, and every byte of the three buffers, whichever answer
 pub record Performs (s : Settings) (x p : List ℕ) (o : Operation) (t : State) (r : Executed) (t′ : State) : Type 0 where

@@ -1,5 +1,6 @@
 // One call: the checks in order, then one operation (document 01 §5 and §6).
 ghost use Rattle.execute.specs.Promise.{Executes};
+use check::Buffers;
 use settings::Settings;
 
 mod answer;
@@ -11,7 +12,6 @@ mod store;
 mod tile;
 
 pub use answer::Executed;
-pub use check::Buffers;
 
 // Executes one instruction word on buffers that the host lends: X of 32 numbers, Z of 32 registers, P
 // of 16, ZA, and memory from the settings' address on. Every word, setting and buffer length has an

@@ -7,7 +7,6 @@ mod group;
 mod merge;
 mod slice;
 
-pub use column::gather_column;
 pub use column::merge_column;
 pub use column::take_column;
 pub use copy::clear_bytes;
