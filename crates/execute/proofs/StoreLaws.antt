@@ -6,14 +6,14 @@ use mathlib.Core.Path.{_≡_, refl, sym, ap, _∙_, fun-ext}
 use mathlib.Core.Bool.{Bool, true, false, cond, _&&_, not, and-eq-true-iff}
 use mathlib.Core.List.{List}
 use mathlib.Core.Option.{Option, none, some}
-use native.Mathlib.Nat.{le-antisymm, mul-le-mul, mul-le-mul-right}
+use native.Mathlib.Nat.{le-antisymm, mul-le-mul, mul-le-mul-right, mod-eq-of-lt}
 use native.Mathlib.Numerals.{add-one}
 use native.Mathlib.Decide.{ℕ-discrete}
 use native.Mathlib.Omega.{arith}
 use lib.Arith.{digits-lt}
 use lib.Dec.{eqb, leb, ltb}
 use lib.ListN.{length, getD, set}
-use borrow.Author.Tests.{ltb-true, ltb-false, leb-true, lt-ltb, le-ltb, le-leb, lt-leb, not-false}
+use borrow.Author.Tests.{ltb-true, ltb-false, leb-true, leb-false, lt-ltb, le-ltb, le-leb, lt-leb, not-false}
 use Rattle.settings.specs.declared.Settings.{Settings}
 use Rattle.encoding.specs.Flat.{bytesOf}
 use Rattle.encoding.specs.declared.operation.ElementSize.{ElementSize}
@@ -22,14 +22,14 @@ use Rattle.encoding.specs.declared.operation.TileToMemory.{TileToMemory}
 use Rattle.tiles.specs.Scatter.{scatter}
 use Rattle.tiles.specs.Predicate.{active}
 use Rattle.tiles.specs.Tile.{sliceAt}
-use Rattle.tiles.proofs.ScatterLaws.{scatter-more}
+use Rattle.tiles.proofs.ScatterLaws.{scatter-more, scatter-agree}
 use Rattle.moves.proofs.BlockLaws.{Written, written}
 use Rattle.execute.specs.declared.answer.Executed.{Executed}
 use Rattle.execute.specs.declared.answer.Executed.the-variants.{Done, StackMisaligned, OutsideMemory}
 use Rattle.execute.specs.Store.{baseOf, offsetOf, addressAt, inMemory, orElse, least, isSome}
 use Rattle.execute.specs.Effect.{sliceStored, stored}
 use Rattle.execute.specs.Execute.{strideOf, faulting, stackBad, storeAnswer}
-use Rattle.execute.specs.Promise.{StoreReady, Stores}
+use Rattle.execute.specs.Promise.{insideAt, StoreReady, Stores}
 use Rattle.execute.proofs.LengthLaws.{Whole, whole}
 use Rattle.execute.proofs.ExecuteLaws.{Refusal}
 
@@ -57,6 +57,12 @@ module _ (f : ℕ → Bool) where
       go : (k < n → least f n ≡ some k) → Dec (n ≡ k) → orElse (least f n) (cond (f n) (some n) none) ≡ some k
       go ih (yes q) = rw (q, e, h)
       go ih (no ne) = rw (ih (omega arith))
+
+  -- where every place fails the test there is none
+  pub least-never : (n : ℕ) → ((k : ℕ) → k < n → f k ≡ false) → least f n ≡ none
+  unfolding least
+  least-never zero h = refl
+  least-never (suc n) h = rw (least-never n (λ k w. h k (omega arith)), h n (omega arith))
 
   -- where there is none, every place fails the test
   pub least-none : (n : ℕ) → least f n ≡ none → (k : ℕ) → k < n → f k ≡ false
@@ -95,6 +101,35 @@ module _ (a n address : ℕ) where
   in-memory e =
       let h = and-eq-true-iff (leb a address) (ltb address (a + n)) .0 e in (leb-true a address (h .0), ltb-true address (a + n) (h .1))
 
+-- ---- n bytes that are all in memory
+
+module _ (a lm start n : ℕ) where
+  pub before-inside : start < a → false ≡ insideAt a lm start n
+  before-inside h = rw (lt-leb a start h)
+
+  pub longer-inside : a ≤ start → lm < n → false ≡ insideAt a lm start n
+  longer-inside h w = rw (le-leb a start h, lt-leb (start - a + n) lm (omega arith))
+
+  pub tested-inside : a ≤ start → n ≤ lm → leb (start - a) (lm - n) ≡ insideAt a lm start n
+  tested-inside h w = rw (le-leb a start h) (go (leb (start - a) (lm - n)) refl)
+    where
+      go : (b : Bool) → leb (start - a) (lm - n) ≡ b → leb (start - a) (lm - n) ≡ leb (start - a + n) lm
+      go true e = e ∙ sym (le-leb (start - a + n) lm (let v = leb-true (start - a) (lm - n) e in omega arith))
+      go false e = e ∙ sym (lt-leb (start - a + n) lm (let v = leb-false (start - a) (lm - n) e in omega arith))
+
+module _ (a lm start n : ℕ) (fits : a + lm ≤ 2 ^ 64) (e : insideAt a lm start n ≡ true) where
+  pub inside-facts : (a ≤ start) × (start - a + n ≤ lm)
+  inside-facts =
+      let h = and-eq-true-iff (leb a start) (leb (start - a + n) lm) .0 e in (leb-true a start (h .0), leb-true (start - a + n) lm (h .1))
+
+  -- each byte's address is the next one
+  pub inside-address : (k : ℕ) → k < n → (start + k) % 2 ^ 64 ≡ start + k
+  inside-address k w = let h = inside-facts in mod-eq-of-lt (omega arith)
+
+  pub inside-memory : (k : ℕ) → k < n → inMemory a lm ((start + k) % 2 ^ 64) ≡ true
+  inside-memory k w =
+      let h = inside-facts in rw (inside-address k w, le-leb a (start + k) (omega arith)) (lt-ltb (start + k) (a + lm) (omega arith))
+
 -- ---- the bytes of a slice
 
 -- byte i of the element in row r and column e is in a ZA of B vectors, and small enough to be computed
@@ -110,6 +145,16 @@ fits B m n size long t r e i ht hr he hi =
     let column : e * m + i < B = rw (← size) (digits-lt he hi) in
     record { row = row; column = column; byte = digits-lt row column; square = mul-le-mul long long }
 
+-- ---- tests joined
+
+pub and-false : (b : Bool) → false ≡ b && false
+and-false true = refl
+and-false false = refl
+
+pub and-true : (b : Bool) → b ≡ b && true
+and-true true = refl
+and-true false = refl
+
 -- ---- the test for a fault
 
 -- byte k is of an active element, and its address not in memory, where byte 0 goes to address start
@@ -124,15 +169,15 @@ module _ (p : List ℕ) (pbase m start a lm k : ℕ) where
   pub active-tested : (address : ℕ) (b t : Bool) → active p pbase m k ≡ true → address ≡ (start + k) % 2 ^ 64 → b ≡ inMemory a lm address → not b ≡ t → faultAt p pbase m start a lm k ≡ t
   active-tested address b t e q h w = rw e (ap not (sym (h ∙ ap (inMemory a lm) q)) ∙ w)
 
+  -- a byte in memory does not fault
+  pub inside-passes : inMemory a lm ((start + k) % 2 ^ 64) ≡ true → faultAt p pbase m start a lm k ≡ false
+  inside-passes e = rw e (sym (and-false (active p pbase m k)))
+
   -- an active byte that does not fault is in memory
   pub passed-inside : faultAt p pbase m start a lm k ≡ false → active p pbase m k ≡ true → inMemory a lm ((start + k) % 2 ^ 64) ≡ true
   passed-inside e h = not-false (inMemory a lm ((start + k) % 2 ^ 64)) (rw h at e)
 
 -- ---- bytes written in turn
-
--- places that agree
-scatter-at : (at at′ : ℕ → ℕ) (on : ℕ → Bool) (val : ℕ → ℕ) (n : ℕ) (l : List ℕ) → ((k : ℕ) → at k ≡ at′ k) → scatter at on val n l ≡ scatter at′ on val n l
-scatter-at at at′ on val n l h = ap (λ (f : ℕ → ℕ). scatter f on val n l) (fun-ext h)
 
 module _ (at : ℕ → ℕ) (on : ℕ → Bool) (val : ℕ → ℕ) (l : List ℕ) (i : ℕ) where
   -- byte i is written
@@ -143,16 +188,6 @@ module _ (at : ℕ → ℕ) (on : ℕ → Bool) (val : ℕ → ℕ) (l : List �
   pub written-inactive : {d d′ : List ℕ} → d ≡ scatter at on val i l → on i ≡ false → d′ ≡ d → Written at on val l (i + 1) d′
   unfolding scatter
   written-inactive q h r = written at on val l (i + 1) (r ∙ rw (add-one i, h) q)
-
--- ---- the stack check
-
-pub and-false : (b : Bool) → false ≡ b && false
-and-false true = refl
-and-false false = refl
-
-pub and-true : (b : Bool) → b ≡ b && true
-and-true true = refl
-and-true false = refl
 
 -- ---- what a store relies on, for elements of m bytes
 
@@ -195,7 +230,7 @@ module _ (s : Settings) (x p : List ℕ) (lm : ℕ) (o : TileToMemory) where
     unfolding stored
     store-writes slice za memory memory′ q w =
         w ∙
-        scatter-at _ (λ (k : ℕ). addressAt (baseOf x (o .rn)) (offsetOf x (o .rm)) (bytesOf (o .size)) k - s .«memory_address») _ _ _ memory (λ k. ap (λ (b : ℕ). b - s .«memory_address») (addresses k)) ∙
+        scatter-agree _ (λ (k : ℕ). addressAt (baseOf x (o .rn)) (offsetOf x (o .rm)) (bytesOf (o .size)) k - s .«memory_address») _ _ _ _ memory (λ k _. (ap (λ (b : ℕ). b - s .«memory_address») (addresses k), refl)) ∙
         rw (size, q)
 
 -- a refused store leaves memory as it was

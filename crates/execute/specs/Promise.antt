@@ -1,9 +1,10 @@
 -- What the functions of this crate promise.
 -- Assumes nothing.
-use Prim.Native.Nat.{ℕ, _≤_, _+_, _^_}
+use Prim.Native.Nat.{ℕ, _≤_, _+_, _-_, _^_}
 use mathlib.Core.Path.{_≡_}
-use mathlib.Core.Bool.{Bool, true, false}
+use mathlib.Core.Bool.{Bool, true, false, _&&_}
 use mathlib.Core.List.{List}
+use lib.Dec.{leb}
 use lib.ListN.{length}
 use Rattle.settings.specs.Settings.{isVectorLength, validSettings, xNumbers, zBytes, pBytes, zaBytes}
 use Rattle.settings.specs.declared.Settings.{Settings}
@@ -40,6 +41,10 @@ checkOf s lx lz lp lza lm =
 pub record Ready (s : Settings) (x p : List ℕ) (t : State) : Type 0 where
   pub settings : validSettings (s .«vector_bytes») (s .level) ≡ true
   pub lengths : validLengths s (length x) (length (t .z)) (length p) (length (t .za)) (length (t .memory)) ≡ true
+
+-- n bytes from address start on are in the memory of lm bytes at a, with no address past 2^64
+abbrev pub insideAt : ℕ → ℕ → ℕ → ℕ → Bool
+insideAt a lm start n = leb a start && leb (start - a + n) lm
 
 -- what a store relies on: the check found nothing, and the operation was decoded
 pub record StoreReady (s : Settings) (lx lp lza lm : ℕ) (o : TileToMemory) : Type 0 where

@@ -9,8 +9,9 @@ ghost use Rattle.encoding.specs.Flat.{bytesOf};
 ghost use Rattle.tiles.specs.Scatter.{scatter};
 ghost use Rattle.tiles.specs.Predicate.{active};
 ghost use Rattle.tiles.specs.Tile.{sliceAt};
+ghost use Rattle.moves.specs.Slice.{Placed};
 ghost use Rattle.execute.specs.Store.{offsetOf, addressAt, inMemory, least, isSome};
-ghost use Rattle.execute.specs.Promise.{StoreReady, Stores};
+ghost use Rattle.execute.specs.Promise.{insideAt, StoreReady, Stores};
 use crate::answer::Executed;
 use crate::select;
 use encoding::Direction;
@@ -98,6 +99,19 @@ fn is_in_memory(a: u64, n: usize, address: u64) -> bool
     address - a < n as u64
 }
 
+// Whether the n bytes from address start on are all in memory, without passing 2^64.
+fn is_inside(start: u64, n: usize, memory_address: u64, memory_bytes: usize) -> bool
+    ensures { λ r. ⌜ r ≡ insideAt «memory_address» «memory_bytes» start n ⌝ }
+{
+    if start < memory_address {
+        return false;
+    }
+    if memory_bytes < n {
+        return false;
+    }
+    start - memory_address <= (memory_bytes - n) as u64
+}
+
 // The first byte of an active element that is not in memory, n if there is none. Byte k goes to
 // address start + k modulo 2^64, and memory has memory_bytes from memory_address on.
 fn first_fault(
@@ -109,10 +123,13 @@ fn first_fault(
     memory_address: u64,
     memory_bytes: usize,
 ) -> usize
-    requires { ⌜ (0 < m) × (pbase * 8 + n ≤ 8 * length (now p)) ⌝ }
+    requires { ⌜ (0 < m) × (pbase * 8 + n ≤ 8 * length (now p)) × («memory_address» + «memory_bytes» ≤ 2 ^ 64) ⌝ }
     ensures some { λ r. ⌜ (r < n → least (λ (k : ℕ). active (now (p .entry)) pbase m k && not (inMemory «memory_address» «memory_bytes» ((start + k) % 2 ^ 64))) n ≡ some r) ⌝ }
     ensures none { λ r. ⌜ (n ≤ r → least (λ (k : ℕ). active (now (p .entry)) pbase m k && not (inMemory «memory_address» «memory_bytes» ((start + k) % 2 ^ 64))) n ≡ none) ⌝ }
 {
+    if is_inside(start, n, memory_address, memory_bytes) {
+        return n;
+    }
     let mut k = 0;
     while k < n {
         if is_active(p, pbase, m, k) {
@@ -174,6 +191,59 @@ fn write_active(
     }
 }
 
+// Copies the active elements of a slice to memory: at once where the whole vector's bytes would be in
+// memory, else byte by byte.
+fn write_slice(
+    memory: &mut [u8],
+    memory_address: u64,
+    start: u64,
+    p: &[u8],
+    pbase: usize,
+    za: &[u8],
+    vector_bytes: usize,
+    size: ElementSize,
+    tile: usize,
+    direction: Direction,
+    slice: usize,
+)
+    requires { ⌜ Placed «vector_bytes» «vector_bytes» (bytesOf size) («vector_bytes» / bytesOf size) tile slice ⌝ }
+    requires { ⌜ (pbase * 8 + «vector_bytes» ≤ 8 * length (now p)) × (length (now za) ≡ «vector_bytes» * «vector_bytes») × («memory_address» + length (now memory) ≤ 2 ^ 64) ⌝ }
+    requires { ⌜ ((k : ℕ) → k < «vector_bytes» → active (now p) pbase (bytesOf size) k ≡ true → inMemory «memory_address» (length (now memory)) ((start + k) % 2 ^ 64) ≡ true) ⌝ }
+    ensures { λ _. ⌜ now (memory .exit) ≡ scatter (λ (k : ℕ). (start + k) % 2 ^ 64 - «memory_address») (active (now (p .entry)) pbase (bytesOf size)) (λ (k : ℕ). getD (now (za .entry)) (sliceAt «vector_bytes» (bytesOf size) tile direction slice k) 0) «vector_bytes» (now (memory .entry)) ⌝ }
+{
+    if is_inside(start, vector_bytes, memory_address, memory.len()) {
+        let at = (start - memory_address) as usize;
+        moves::merge_from_slice(
+            memory,
+            at,
+            za,
+            p,
+            vector_bytes,
+            vector_bytes,
+            size,
+            tile,
+            direction,
+            slice,
+            pbase,
+        );
+    } else {
+        let m = size.bytes() as usize;
+        write_active(
+            memory,
+            memory_address,
+            start,
+            p,
+            pbase,
+            za,
+            vector_bytes,
+            m,
+            tile,
+            direction,
+            slice,
+        );
+    }
+}
+
 // Stores the active elements of a slice. Nothing is written unless every active byte is in memory.
 pub(crate) fn store(
     operation: TileToMemory,
@@ -204,6 +274,18 @@ pub(crate) fn store(
     let slice = select::selected(x[operation.rs as usize], operation.imm, count);
     let direction = operation.direction;
     let tile = operation.zat as usize;
-    write_active(memory, a, start, p, pbase, za, n, m, tile, direction, slice);
+    write_slice(
+        memory,
+        a,
+        start,
+        p,
+        pbase,
+        za,
+        n,
+        size,
+        tile,
+        direction,
+        slice,
+    );
     Executed::Done
 }

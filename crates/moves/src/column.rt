@@ -100,3 +100,25 @@ pub fn take_column(
         e += 1;
     }
 }
+
+// Copies n elements of za that stand step apart to dst, from index at_dst on.
+pub(crate) fn gather_column(
+    dst: &mut [u8],
+    at_dst: usize,
+    za: &[u8],
+    base: usize,
+    step: usize,
+    size: ElementSize,
+    n: usize,
+)
+    requires { ⌜ «at_dst» + n * bytesOf size ≤ length (now dst) ⌝ }
+    requires { ⌜ ((e : ℕ) → e < n → base + e * step + bytesOf size ≤ length (now za)) ⌝ }
+    ensures { λ _. ⌜ now (dst .exit) ≡ scatter (from «at_dst») all (λ (k : ℕ). getD (now (za .entry)) (strided base step (bytesOf size) k) 0) (n * bytesOf size) (now (dst .entry)) ⌝ }
+{
+    let m = size.bytes() as usize;
+    let mut e = 0;
+    while e < n {
+        copy_element(dst, at_dst + e * m, za, base + e * step, size);
+        e += 1;
+    }
+}

@@ -16,5 +16,6 @@ pub use group::copy_group;
 pub use group::vector_group;
 pub use merge::merge_vector;
 pub use slice::elements_in;
+pub use slice::merge_from_slice;
 pub use slice::move_to_slice;
 pub use slice::take_slice;

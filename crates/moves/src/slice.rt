@@ -8,6 +8,7 @@ ghost use Rattle.tiles.specs.Scatter.{scatter, all, zeros, from};
 ghost use Rattle.tiles.specs.Predicate.{active};
 ghost use Rattle.tiles.specs.Tile.{sliceAt};
 ghost use Rattle.moves.specs.Slice.{Placed, sliceStart};
+use crate::column::gather_column;
 use crate::column::merge_column;
 use crate::column::take_column;
 use crate::copy::clear_bytes;
@@ -107,6 +108,40 @@ pub fn take_slice(
             let step = size.bytes() as usize * stride;
             let n = elements_in(vector_bytes, size);
             take_column(z, zbase, za, start, step, size, n);
+        }
+    }
+}
+
+// Copies the active elements of a slice of za to bytes that follow each other from index at_dst of dst on,
+// under the governing predicate that starts at index pbase of p. A vertical slice is gathered first.
+pub fn merge_from_slice(
+    dst: &mut [u8],
+    at_dst: usize,
+    za: &[u8],
+    p: &[u8],
+    stride: usize,
+    vector_bytes: usize,
+    size: ElementSize,
+    tile: usize,
+    direction: Direction,
+    slice: usize,
+    pbase: usize,
+)
+    requires { ⌜ Placed stride «vector_bytes» (bytesOf size) («vector_bytes» / bytesOf size) tile slice ⌝ }
+    requires { ⌜ («vector_bytes» * stride ≤ length (now za)) × («at_dst» + «vector_bytes» ≤ length (now dst)) × (pbase + «vector_bytes» / 8 ≤ length (now p)) ⌝ }
+    ensures { λ _. ⌜ now (dst .exit) ≡ scatter (from «at_dst») (active (now (p .entry)) pbase (bytesOf size)) (λ (k : ℕ). getD (now (za .entry)) (sliceAt stride (bytesOf size) tile direction slice k) 0) «vector_bytes» (now (dst .entry)) ⌝ }
+{
+    let start = slice_start(stride, vector_bytes, size, tile, direction, slice);
+    match direction {
+        Direction::Horizontal => {
+            merge_vector(dst, at_dst, za, start, p, pbase, size, vector_bytes / 16);
+        }
+        Direction::Vertical => {
+            let step = size.bytes() as usize * stride;
+            let n = elements_in(vector_bytes, size);
+            let mut part = [0u8; 256];
+            gather_column(&mut part, 0, za, start, step, size, n);
+            merge_vector(dst, at_dst, &part, 0, p, pbase, size, vector_bytes / 16);
         }
     }
 }

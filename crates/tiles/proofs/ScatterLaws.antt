@@ -10,7 +10,7 @@ use native.Mathlib.Decide.{ℕ-discrete}
 use native.Mathlib.Omega.{arith}
 use lib.ListN.{length, getD, set, length-set}
 use lib.Seq.{getD-set-same, getD-set-other}
-use Rattle.tiles.specs.Scatter.{pick, setIf, scatter, all, from}
+use Rattle.tiles.specs.Scatter.{pick, setIf, scatter}
 
 pub length-setIf : (b : Bool) (l : List ℕ) (i v : ℕ) → length (setIf b l i v) ≡ length l
 length-setIf true l i v = length-set l i v
@@ -82,14 +82,10 @@ scatter-none at on val = refl
 pub scatter-end : (at : ℕ → ℕ) (on : ℕ → Bool) (val : ℕ → ℕ) (l : List ℕ) {i n : ℕ} {d : List ℕ} → d ≡ scatter at on val i l → i ≤ n → n ≤ i → d ≡ scatter at on val n l
 scatter-end at on val l e h k = e ∙ ap (λ (j : ℕ). scatter at on val j l) (le-antisymm h k)
 
--- values that agree below n
-pub scatter-same : (at : ℕ → ℕ) (on : ℕ → Bool) (val val′ : ℕ → ℕ) (n : ℕ) (l : List ℕ) → ((k : ℕ) → k < n → val k ≡ val′ k) → scatter at on val n l ≡ scatter at on val′ n l
+-- places and values that agree below n
+pub scatter-agree : (at at′ : ℕ → ℕ) (on : ℕ → Bool) (val val′ : ℕ → ℕ) (n : ℕ) (l : List ℕ) → ((k : ℕ) → k < n → (at k ≡ at′ k) × (val k ≡ val′ k)) → scatter at on val n l ≡ scatter at′ on val′ n l
 unfolding scatter
-scatter-same at on val val′ zero l h = refl
-scatter-same at on val val′ (suc n) l h =
-    rw (h n (omega arith), scatter-same at on val val′ n l (λ k w. h k (omega arith)))
-
--- bytes copied out to a buffer of their own, and from there
-pub scatter-through : (at : ℕ → ℕ) (val : ℕ → ℕ) (n : ℕ) (l part part₀ : List ℕ) → length part₀ ≡ n → part ≡ scatter (from 0) all val n part₀ → scatter at all (λ (k : ℕ). getD part (0 + k) 0) n l ≡ scatter at all val n l
-scatter-through at val n l part part₀ e q =
-    scatter-same at all (λ (k : ℕ). getD part (0 + k) 0) val n l (λ k w. rw q (getD-scatter (from 0) all val n part₀ k w (omega arith) (λ j v ne r. ne (omega arith))))
+scatter-agree at at′ on val val′ zero l h = refl
+scatter-agree at at′ on val val′ (suc n) l h =
+    let w = h n (omega arith) in
+    rw (w .0, w .1, scatter-agree at at′ on val val′ n l (λ k w. h k (omega arith)))

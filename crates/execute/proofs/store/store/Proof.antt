@@ -10,6 +10,7 @@ use Rattle.encoding.specs.Flat.{bytesOf}
 use Rattle.execute.specs.Store.{baseOf, offsetOf, addressAt, least}
 use Rattle.execute.specs.Execute.{stackBad, faulting}
 use Rattle.execute.proofs.LengthLaws.{whole}
+use Rattle.execute.proofs.MoveLaws.{placed}
 use Rattle.execute.proofs.StoreLaws.{Prepared, prepared, store-refuses, refusal-stack, refusal-memory, stack-tested, stack-refused, fault-refused, store-done, fault-same, store-writes, passed-inside, least-none, faultAt}
 use Rattle.execute.proofs.store.store.Statement.{statement}
 use Rattle.execute.proofs.store.store.Tie as tie
@@ -53,7 +54,9 @@ returns c =
     refusal-stack
 
 first-fault-requires : tie.Need-first-fault-requires
-first-fault-requires c κs = let r = ready (c .before .before .before .before .before .before .before) in (r .whole .some, r .room)
+first-fault-requires c κs =
+    let b = c .before .before .before .before .before .before .before in
+    let r = ready b in (r .whole .some, r .room, b .before .before .before .before .before .pre .memory)
 
 returns-2 : tie.Need-returns-2
 returns-2 c =
@@ -80,8 +83,8 @@ selected-requires c κs =
     let n = c .before .before .elements-in .ensures in
     (rw n (w .slices), rw n (w .few), entry .pre .range .offset)
 
-write-active-requires : tie.Need-write-active-requires
-write-active-requires c κs =
+write-slice-requires : tie.Need-write-slice-requires
+write-slice-requires c κs =
     let sel = c .before .before in
     let at-count = sel .before .before .before in
     let at-else = at-count .before in
@@ -89,12 +92,14 @@ write-active-requires c κs =
     let b = fault .before .before .before .before .before .before .before .before in
     let entry = b .before .before .before .before .before in
     let a = entry .args in
-    let r = ready b in (
-      (r .whole .longest, r .whole .elements, rw (b .bytes .ensures .0) (entry .pre .range .tile), rw (b .bytes .ensures .0, ← at-count .elements-in .ensures) (sel .selected .ensures .1)),
+    let r = ready b in
+    let m = b .bytes .ensures .0 in (
+      placed (a .operation .size) (a .settings .«vector_bytes») _ _ (entry .pre .vector) (entry .pre .range .tile) (rw (← at-count .elements-in .ensures) (sel .selected .ensures .1)),
       (
-        (r .room, entry .pre .za),
+        (r .room, entry .pre .za, entry .pre .memory),
         (λ k w h. passed-inside (a .p .now) (a .operation .pg * (a .settings .«vector_bytes» / 8)) (b .bytes .result) (fault .before .first-address .result) (a .settings .«memory_address») (length (a .memory .now)) k
-            (least-none (faultAt (a .p .now) (a .operation .pg * (a .settings .«vector_bytes» / 8)) (b .bytes .result) (fault .before .first-address .result) (a .settings .«memory_address») (length (a .memory .now))) (a .settings .«vector_bytes») (fault .first-fault .ensures .1 (at-else .if2 .left)) k w) h),
+            (least-none (faultAt (a .p .now) (a .operation .pg * (a .settings .«vector_bytes» / 8)) (b .bytes .result) (fault .before .first-address .result) (a .settings .«memory_address») (length (a .memory .now))) (a .settings .«vector_bytes») (fault .first-fault .ensures .1 (at-else .if2 .left)) k w)
+            (rw m h)),
       ),
     )
 
@@ -116,7 +121,7 @@ returns-3 c =
           (stack (at-stack .before) false (at-stack .if1 .left))
           (sym (tests fault) ∙ fault .first-fault .ensures .1 (at-else .if2 .left));
       done = λ _.
-          store-writes (a .settings) (a .x .now) (a .p .now) (length (a .memory .now)) (a .operation) (b .bytes .result) (at-address .first-address .result) (b .bytes .ensures .0) (addresses at-address) (sel .selected .result) (a .za .now) (a .memory .now) (at-write .write-active .last .0) slice (at-write .write-active .ensures);
+          store-writes (a .settings) (a .x .now) (a .p .now) (length (a .memory .now)) (a .operation) (b .bytes .result) (at-address .first-address .result) (b .bytes .ensures .0) (addresses at-address) (sel .selected .result) (a .za .now) (a .memory .now) (at-write .write-slice .last .0) slice (rw (b .bytes .ensures .0) (at-write .write-slice .ensures));
       refused = λ n. absurd (n refl);
     }
 
@@ -144,6 +149,6 @@ store-spec =
     shared-slice-read-selected
     selected-requires
     (λ c. search needs)
-    write-active-requires
+    write-slice-requires
     (λ c. search needs)
     returns-3)

@@ -35,7 +35,7 @@ returns c =
     let a = e .before .before .before .before .args in
     let val : ℕ → ℕ = λ k. getD (a .src .now) (a .at-src + k) 0 in
     m .copy-bytes .ensures
-    ∙ scatter-by-part _ (λ k. pick (a .on) (val k) (getD (a .dst .now) (a .at-dst + k) 0)) _ _ _ _ (omega (arith, l .inv .1)) (scatter-end _ _ _ _ (l .inv .2 .1) (l .inv .0) (e .loop-test .left))
+    ∙ scatter-by-part _ _ (λ k. pick (a .on) (val k) (getD (a .dst .now) (a .at-dst + k) 0)) _ _ _ _ (omega (arith, l .inv .1)) (scatter-end _ _ _ _ (l .inv .2 .1) (l .inv .0) (e .loop-test .left))
     ∙ scatter-picked (a .at-dst) (λ k. a .on) val (a .dst .now) _
 
 pub merge-bytes-spec : {M : Type 1} → statement M

@@ -59,7 +59,7 @@ returns c =
     let a = entry .args in
     let run =
     slice-run (a .stride) (bytesOf (a .size)) (a .tile) (a .direction) (a .slice) _ (at-start .slice-start .ensures) (at-arm .enum-told .given .1) in
-    (gather-as _ (from (at-start .slice-start .result)) _ (a .za .now) _ _ _ (at-copy-vector .copy-vector .ensures) run refl, scatter-as _ _ _ _ _ _ _ (at-clear-bytes .clear-bytes .ensures) run refl)
+    (gather-as _ _ (from (at-start .slice-start .result)) _ (a .za .now) _ _ _ (at-copy-vector .copy-vector .ensures) run refl, scatter-as _ _ _ _ _ _ _ (at-clear-bytes .clear-bytes .ensures) run refl)
 
 returns-2 : tie.Need-returns-2
 returns-2 c =
@@ -77,7 +77,7 @@ returns-2 c =
     let column =
     slice-column (a .stride) m (a .tile) (a .direction) (a .slice) _ _ (at-start .slice-start .ensures) step in
     let places = strided (at-start .slice-start .result) (at-bytes .bytes .result * a .stride) m in
-    (gather-as _ places _ (a .za .now) _ _ _ (at-take-column .take-column .ensures .0) column count, scatter-as _ _ _ _ _ _ _ (at-take-column .take-column .ensures .1) column count)
+    (gather-as _ _ places _ (a .za .now) _ _ _ (at-take-column .take-column .ensures .0) column count, scatter-as _ _ _ _ _ _ _ (at-take-column .take-column .ensures .1) column count)
 
 pub take-slice-spec : {M : Type 1} → statement M
 take-slice-spec =
