@@ -7,11 +7,9 @@ use mathlib.Core.Bool.{Bool, true}
 use mathlib.Core.List.{List, [], _∷_, _++_, map, append-assoc}
 use mathlib.Core.Option.{some}
 use mathlib.Core.Logic.{_⊎_, inl, inr}
-use native.Mathlib.Nat.{le-refl}
 use native.Mathlib.Omega.{arith}
 use lib.ListN.{length, getD}
 use Rattle.settings.specs.Settings.{isVectorLength}
-use Rattle.settings.specs.declared.Settings.{Settings}
 use Rattle.encoding.specs.Flat.{bytesOf}
 use Rattle.encoding.specs.declared.operation.ElementSize.{ElementSize}
 use Rattle.encoding.specs.declared.operation.Direction.{Direction}
@@ -21,7 +19,6 @@ use Rattle.tiles.specs.Predicate.{bit}
 use Rattle.tiles.specs.Tile.{flip, byteAt, byteOf, Outside}
 use Rattle.tiles.proofs.TileLaws.{byteAt-within, slices-cross}
 use Rattle.tiles.proofs.SliceLaws.{active-element, written-at, taken-at}
-use Rattle.execute.specs.Execute.{strideOf}
 use Rattle.execute.proofs.LengthLaws.{whole}
 use Rattle.laws.specs.Calls.{Call, outcome, run, Move, into, out, moved, vectorOf, predicateOf}
 use Rattle.laws.specs.Crossing.{EachOnce, slicesOf, Once, Crossed, CrossingLaw}
@@ -53,26 +50,26 @@ empty [] e = refl
 empty (x ∷ l) e = absurd (omega arith)
 
 -- where slices are named some call is done
-record Named (s : Settings) (f : ℕ → Move) : Type 0 where
+record Named (f : ℕ → Move) : Type 0 where
   call : Call
   za : List ℕ
   slice : ℕ
-  move : moved s call za ≡ some (f slice)
+  move : moved call za ≡ some (f slice)
 
-named : {s : Settings} {f : ℕ → Move} {cs : List Call} {za l : List ℕ} → Trace s f cs za l → 0 < length l → Named s f
+named : {f : ℕ → Move} {cs : List Call} {za l : List ℕ} → Trace f cs za l → 0 < length l → Named f
 named ended h = absurd (omega arith)
 named (rested q r u) h = named u h
 named (went {c = c} {za = za} {x = x} q u) h = record { call = c; za = za; slice = x; move = q }
 
 -- ---- moves
 
-into-same : (size : ElementSize) (d : Direction) (t x y : ℕ) → into size d t x ≡ into size d t y → x ≡ y
-into-same size d t x y e = cc
+into-same : (S B : ℕ) (size : ElementSize) (d : Direction) (t x y : ℕ) → into S B size d t x ≡ into S B size d t y → x ≡ y
+into-same S B size d t x y e = cc
 
-out-same : (size : ElementSize) (d : Direction) (t x y : ℕ) → out size d t x ≡ out size d t y → x ≡ y
-out-same size d t x y e = cc
+out-same : (S B : ℕ) (size : ElementSize) (d : Direction) (t x y : ℕ) → out S B size d t x ≡ out S B size d t y → x ≡ y
+out-same S B size d t x y e = cc
 
-in-not-out : {size size′ : ElementSize} {d d′ : Direction} {t t′ k k′ : ℕ} → into size d t k ≡ out size′ d′ t′ k′ → ⊥
+in-not-out : {S S′ B B′ : ℕ} {size size′ : ElementSize} {d d′ : Direction} {t t′ k k′ : ℕ} → into S B size d t k ≡ out S′ B′ size′ d′ t′ k′ → ⊥
 in-not-out e = let z : _≡_ {A = ℕ} 0 1 = cc in omega arith
 
 -- the tile's bytes, by the slices of either direction
@@ -83,57 +80,48 @@ by-slices S m n t Vertical P h r k i hr hk hi = h k r i hk hr hi
 
 -- ---- a tile with slices
 
-module _ (s : Settings) (size : ElementSize) (d : Direction) (t : ℕ) (valid : isVectorLength (s .«vector_bytes») ≡ true) (tile : t < bytesOf size) where
-  abbrev B : ℕ
-  B = s .«vector_bytes»
-
-  abbrev S : ℕ
-  S = strideOf s
-
+module _ (S B : ℕ) (size : ElementSize) (d : Direction) (t : ℕ) (valid : isVectorLength B ≡ true) (fits : B ≤ S) (tile : t < bytesOf size) where
   abbrev m : ℕ
   m = bytesOf size
 
   abbrev n : ℕ
-  n = slicesOf s size
+  n = slicesOf B size
 
   divides : n * m ≡ B
   divides = whole size B valid .elements
 
-  fits : B ≤ S
-  fits = le-refl B
-
   -- both kinds of move write within a slice
-  into-writes : (c : Call) (za : List ℕ) (k : ℕ) → moved s c za ≡ some (into size d t k) → Writes s S B m n divides fits t tile d c za k
-  into-writes c za k e = let h = into-call s c za size d t k e in record { within = h .within; on = _; val = _; is = h .is }
+  into-writes : (c : Call) (za : List ℕ) (k : ℕ) → moved c za ≡ some (into S B size d t k) → Writes S B m n divides fits t tile d c za k
+  into-writes c za k e = let h = into-call c za S B size d t k e in record { within = h .within; on = _; val = _; is = h .is }
 
-  out-writes : (c : Call) (za : List ℕ) (k : ℕ) → moved s c za ≡ some (out size (flip d) t k) → Writes s S B m n divides fits t tile (flip d) c za k
-  out-writes c za k e = let h = out-call s c za size (flip d) t k e in record { within = h .within; on = _; val = _; is = h .is }
+  out-writes : (c : Call) (za : List ℕ) (k : ℕ) → moved c za ≡ some (out S B size (flip d) t k) → Writes S B m n divides fits t tile (flip d) c za k
+  out-writes c za k e = let h = out-call c za S B size (flip d) t k e in record { within = h .within; on = _; val = _; is = h .is }
 
-  module _ (za : List ℕ) (first second : List Call) (rows columns : List ℕ) (u : Trace s (into size d t) first za rows) (v : Trace s (out size (flip d) t) second (run s first za) columns) (eachRow : EachOnce n rows) (eachColumn : EachOnce n columns) where
+  module _ (za : List ℕ) (first second : List Call) (rows columns : List ℕ) (u : Trace (into S B size d t) first za rows) (v : Trace (out S B size (flip d) t) second (run first za) columns) (eachRow : EachOnce n rows) (eachColumn : EachOnce n columns) where
     abbrev za₁ : List ℕ
-    za₁ = run s first za
+    za₁ = run first za
 
     abbrev cs : List Call
     cs = first ++ second
 
     -- the call of row j, in the first half
-    rowCall : (j : ℕ) → j < n → Single s S B m n divides fits t tile d (into size d t) (into-same size d t) into-writes first za j
-    rowCall j h = single s S B m n divides fits t tile d (into size d t) (into-same size d t) into-writes j h u (eachRow .once j h)
+    rowCall : (j : ℕ) → j < n → Single S B m n divides fits t tile d (into S B size d t) (into-same S B size d t) into-writes first za j
+    rowCall j h = single S B m n divides fits t tile d (into S B size d t) (into-same S B size d t) into-writes j h u (eachRow .once j h)
 
     -- the call of column k, in the second
-    columnCall : (k : ℕ) → k < n → Single s S B m n divides fits t tile (flip d) (out size (flip d) t) (out-same size (flip d) t) out-writes second za₁ k
-    columnCall k h = single s S B m n divides fits t tile (flip d) (out size (flip d) t) (out-same size (flip d) t) out-writes k h v (eachColumn .once k h)
+    columnCall : (k : ℕ) → k < n → Single S B m n divides fits t tile (flip d) (out S B size (flip d) t) (out-same S B size (flip d) t) out-writes second za₁ k
+    columnCall k h = single S B m n divides fits t tile (flip d) (out S B size (flip d) t) (out-same S B size (flip d) t) out-writes k h v (eachColumn .once k h)
 
     -- no call of the second half moves in, none of the first out
-    not-in-second : (b a : List Call) (c : Call) (j : ℕ) → second ≡ b ++ c ∷ a → moved s c (run s b za₁) ≡ some (into size d t j) → ⊥
+    not-in-second : (b a : List Call) (c : Call) (j : ℕ) → second ≡ b ++ c ∷ a → moved c (run b za₁) ≡ some (into S B size d t j) → ⊥
     not-in-second b a c j e q =
-        in-not-out (listed s S B m n divides fits t tile (flip d) (out size (flip d) t) (out-same size (flip d) t) out-writes v b a c (into size d t j) e q .same)
+        in-not-out (listed S B m n divides fits t tile (flip d) (out S B size (flip d) t) (out-same S B size (flip d) t) out-writes v b a c (into S B size d t j) e q .same)
 
-    not-in-first : (b a : List Call) (c : Call) (k : ℕ) → first ≡ b ++ c ∷ a → moved s c (run s b za) ≡ some (out size (flip d) t k) → ⊥
+    not-in-first : (b a : List Call) (c : Call) (k : ℕ) → first ≡ b ++ c ∷ a → moved c (run b za) ≡ some (out S B size (flip d) t k) → ⊥
     not-in-first b a c k e q =
-        in-not-out (sym (listed s S B m n divides fits t tile d (into size d t) (into-same size d t) into-writes u b a c (out size (flip d) t k) e q .same))
+        in-not-out (sym (listed S B m n divides fits t tile d (into S B size d t) (into-same S B size d t) into-writes u b a c (out S B size (flip d) t k) e q .same))
 
-    row : (j : ℕ) → j < n → Once s cs za (into size d t j)
+    row : (j : ℕ) → j < n → Once cs za (into S B size d t j)
     row j h =
         let r = rowCall j h in
         record {
@@ -145,12 +133,12 @@ module _ (s : Settings) (size : ElementSize) (d : Direction) (t : ℕ) (valid : 
           only = λ b a c e q. go (r .only) b a c q (found first second b c a e);
         }
       where
-        go : {before : List Call} → ((b a : List Call) (c : Call) → first ≡ b ++ c ∷ a → moved s c (run s b za) ≡ some (into size d t j) → b ≡ before) → (b a : List Call) (c : Call) → moved s c (run s b za) ≡ some (into size d t j) → Found first second b c a → b ≡ before
+        go : {before : List Call} → ((b a : List Call) (c : Call) → first ≡ b ++ c ∷ a → moved c (run b za) ≡ some (into S B size d t j) → b ≡ before) → (b a : List Call) (c : Call) → moved c (run b za) ≡ some (into S B size d t j) → Found first second b c a → b ≡ before
         go only b a c q (in-first a′ e) = only b a′ c e q
         go only b a c q (in-second b′ e f) =
-            absurd (not-in-second b′ a c j f (ap (moved s c) (sym (run-append s first b′ za)) ∙ ap (λ (l : List Call). moved s c (run s l za)) (sym e) ∙ q))
+            absurd (not-in-second b′ a c j f (ap (moved c) (sym (run-append first b′ za)) ∙ ap (λ (l : List Call). moved c (run l za)) (sym e) ∙ q))
 
-    column : (k : ℕ) → k < n → Once s cs za (out size (flip d) t k)
+    column : (k : ℕ) → k < n → Once cs za (out S B size (flip d) t k)
     column k h =
         let r = columnCall k h in
         record {
@@ -158,80 +146,80 @@ module _ (s : Settings) (size : ElementSize) (d : Direction) (t : ℕ) (valid : 
           call = r .call;
           after = r .after;
           place = ap (λ (l : List Call). first ++ l) (r .place) ∙ sym (append-assoc first (r .before) (r .call ∷ r .after));
-          move = ap (moved s (r .call)) (run-append s first (r .before) za) ∙ r .move;
+          move = ap (moved (r .call)) (run-append first (r .before) za) ∙ r .move;
           only = λ b a c e q. go (r .only) b a c q (found first second b c a e);
         }
       where
-        go : {before : List Call} → ((b a : List Call) (c : Call) → second ≡ b ++ c ∷ a → moved s c (run s b za₁) ≡ some (out size (flip d) t k) → b ≡ before) → (b a : List Call) (c : Call) → moved s c (run s b za) ≡ some (out size (flip d) t k) → Found first second b c a → b ≡ first ++ before
+        go : {before : List Call} → ((b a : List Call) (c : Call) → second ≡ b ++ c ∷ a → moved c (run b za₁) ≡ some (out S B size (flip d) t k) → b ≡ before) → (b a : List Call) (c : Call) → moved c (run b za) ≡ some (out S B size (flip d) t k) → Found first second b c a → b ≡ first ++ before
         go only b a c q (in-first a′ e) = absurd (not-in-first b a′ c k e q)
         go only b a c q (in-second b′ e f) =
-            e ∙ ap (λ (l : List Call). first ++ l) (only b′ a c f (ap (moved s c) (sym (run-append s first b′ za)) ∙ ap (λ (l : List Call). moved s c (run s l za)) (sym e) ∙ q))
+            e ∙ ap (λ (l : List Call). first ++ l) (only b′ a c f (ap (moved c) (sym (run-append first b′ za)) ∙ ap (λ (l : List Call). moved c (run l za)) (sym e) ∙ q))
 
     back : (k j i : ℕ) (hk : k < n) (hj : j < n) → i < m →
-        getD (outcome s (column k hk .call) (run s (column k hk .before) za) .state .z) (vectorOf s (column k hk .call) * S + (j * m + i)) 0 ≡
-        pick (bit (row j hj .call .p) (predicateOf s (row j hj .call) * (S / 8)) (k * m))
-        (getD (row j hj .call .z) (vectorOf s (row j hj .call) * S + (k * m + i)) 0)
+        getD (outcome (column k hk .call) (run (column k hk .before) za) .state .z) (vectorOf (column k hk .call) * S + (j * m + i)) 0 ≡
+        pick (bit (row j hj .call .p) (predicateOf (row j hj .call) * (S / 8)) (k * m))
+        (getD (row j hj .call .z) (vectorOf (row j hj .call) * S + (k * m + i)) 0)
         (getD za (byteOf S m t d j k i) 0)
     unfolding row column
     back k j i hk hj hi =
         let r = rowCall j hj in
         let c = columnCall k hk in
-        let at = run s (r .before) za in
-        let p = into-call s (r .call) at size d t j (r .move) in
-        let o = out-call s (c .call) (run s (c .before) za₁) size (flip d) t k (c .move) in
-        ap (λ (a : List ℕ). getD (outcome s (c .call) a .state .z) (vectorOf s (c .call) * S + (j * m + i)) 0) (run-append s first (c .before) za) ∙
-        ap (λ (l : List ℕ). getD l (vectorOf s (c .call) * S + (j * m + i)) 0) (o .takes) ∙
-        taken-at S B m n divides fits t tile (flip d) (run s (c .before) za₁) (vectorOf s (c .call) * S) (c .call .z) k j i (o .room) hj hi ∙
+        let at = run (r .before) za in
+        let p = into-call (r .call) at S B size d t j (r .move) in
+        let o = out-call (c .call) (run (c .before) za₁) S B size (flip d) t k (c .move) in
+        ap (λ (a : List ℕ). getD (outcome (c .call) a .state .z) (vectorOf (c .call) * S + (j * m + i)) 0) (run-append first (c .before) za) ∙
+        ap (λ (l : List ℕ). getD l (vectorOf (c .call) * S + (j * m + i)) 0) (o .takes) ∙
+        taken-at S B m n divides fits t tile (flip d) (run (c .before) za₁) (vectorOf (c .call) * S) (c .call .z) k j i (o .room) hj hi ∙
         c .until j i hj hi ∙
         ap (λ (x : ℕ). getD za₁ x 0) (sym (slices-cross S m t d j k i)) ∙
         r .since k i hk hi ∙
         ap (λ (l : List ℕ). getD l (byteOf S m t d j k i) 0) (p .is) ∙
         written-at S B m n divides fits t tile d _ _ at j k i (omega (arith, p .long)) hj hk hi ∙
-        ap (λ (b : Bool). pick b (getD (r .call .z) (vectorOf s (r .call) * S + (k * m + i)) 0) (getD at (byteOf S m t d j k i) 0)) (active-element (r .call .p) (predicateOf s (r .call) * (S / 8)) m k i hi) ∙
-        ap (pick (bit (r .call .p) (predicateOf s (r .call) * (S / 8)) (k * m)) (getD (r .call .z) (vectorOf s (r .call) * S + (k * m + i)) 0)) (r .until k i hk hi)
+        ap (λ (b : Bool). pick b (getD (r .call .z) (vectorOf (r .call) * S + (k * m + i)) 0) (getD at (byteOf S m t d j k i) 0)) (active-element (r .call .p) (predicateOf (r .call) * (S / 8)) m k i hi) ∙
+        ap (pick (bit (r .call .p) (predicateOf (r .call) * (S / 8)) (k * m)) (getD (r .call .z) (vectorOf (r .call) * S + (k * m + i)) 0)) (r .until k i hk hi)
 
     -- a column's call found ZA of the right length
-    length-kept : (k : ℕ) → k < n → length za ≡ B * B
+    length-kept : (k : ℕ) → k < n → length za ≡ B * S
     length-kept k h =
         let c = columnCall k h in
-        sym (run-long s first za) ∙ sym (run-long s (c .before) za₁) ∙ out-call s (c .call) (run s (c .before) za₁) size (flip d) t k (c .move) .long
+        sym (run-long first za) ∙ sym (run-long (c .before) za₁) ∙ out-call (c .call) (run (c .before) za₁) S B size (flip d) t k (c .move) .long
 
-    inside : (r k i : ℕ) → r < n → k < n → i < m → byteAt S m t r k i < length (run s cs za)
-    inside r k i hr hk hi = rw (run-long s cs za, length-kept k hk) (byteAt-within S B m n divides fits t r k i tile hr hk hi)
+    inside : (r k i : ℕ) → r < n → k < n → i < m → byteAt S m t r k i < length (run cs za)
+    inside r k i hr hk hi = rw (run-long cs za, length-kept k hk) (byteAt-within S B m n divides fits t r k i tile hr hk hi)
 
-    zeroed-slice : (k e i : ℕ) → k < n → e < n → i < m → getD (run s cs za) (byteOf S m t (flip d) k e i) 0 ≡ 0
+    zeroed-slice : (k e i : ℕ) → k < n → e < n → i < m → getD (run cs za) (byteOf S m t (flip d) k e i) 0 ≡ 0
     zeroed-slice k e i hk he hi =
         let c = columnCall k hk in
-        let at = run s (c .before) za₁ in
-        let o = out-call s (c .call) at size (flip d) t k (c .move) in
-        ap (λ (l : List ℕ). getD l (byteOf S m t (flip d) k e i) 0) (run-append s first second za) ∙
+        let at = run (c .before) za₁ in
+        let o = out-call (c .call) at S B size (flip d) t k (c .move) in
+        ap (λ (l : List ℕ). getD l (byteOf S m t (flip d) k e i) 0) (run-append first second za) ∙
         c .since e i he hi ∙
         ap (λ (l : List ℕ). getD l (byteOf S m t (flip d) k e i) 0) (o .is) ∙
         written-at S B m n divides fits t tile (flip d) all zeros at k e i (omega (arith, o .long)) hk he hi
 
-    kept : (p : ℕ) → Outside S m n t p → getD (run s cs za) p 0 ≡ getD za p 0
+    kept : (p : ℕ) → Outside S m n t p → getD (run cs za) p 0 ≡ getD za p 0
     kept p o =
-        ap (λ (l : List ℕ). getD l p 0) (run-append s first second za) ∙
-        outside-stays s S B m n divides fits t tile (flip d) (out size (flip d) t) (out-same size (flip d) t) out-writes p o v ∙
-        outside-stays s S B m n divides fits t tile d (into size d t) (into-same size d t) into-writes p o u
+        ap (λ (l : List ℕ). getD l p 0) (run-append first second za) ∙
+        outside-stays S B m n divides fits t tile (flip d) (out S B size (flip d) t) (out-same S B size (flip d) t) out-writes p o v ∙
+        outside-stays S B m n divides fits t tile d (into S B size d t) (into-same S B size d t) into-writes p o u
 
-    pub crossed : Crossed s size d t cs za
+    pub crossed : Crossed S B size d t cs za
     crossed =
         record {
           column = column;
           row = row;
           back = back;
           inside = inside;
-          zeroed = by-slices S m n t (flip d) (λ p. getD (run s cs za) p 0 ≡ 0) zeroed-slice;
+          zeroed = by-slices S m n t (flip d) (λ p. getD (run cs za) p 0 ≡ 0) zeroed-slice;
           kept = kept;
-          long = run-long s cs za;
+          long = run-long cs za;
         }
 
 -- ---- the law
 
 -- without slices there are no moves, and nothing happens
-no-slices : (s : Settings) (size : ElementSize) (d : Direction) (t : ℕ) (cs : List Call) (za : List ℕ) → slicesOf s size ≡ 0 → run s cs za ≡ za → Crossed s size d t cs za
-no-slices s size d t cs za none same =
+no-slices : (S B : ℕ) (size : ElementSize) (d : Direction) (t : ℕ) (cs : List Call) (za : List ℕ) → slicesOf B size ≡ 0 → run cs za ≡ za → Crossed S B size d t cs za
+no-slices S B size d t cs za none same =
     record {
       column = λ k h. absurd (omega arith);
       row = λ j h. absurd (omega arith);
@@ -239,29 +227,29 @@ no-slices s size d t cs za none same =
       inside = λ r k i hr hk hi. absurd (omega arith);
       zeroed = λ r k i hr hk hi. absurd (omega arith);
       kept = λ p o. ap (λ (l : List ℕ). getD l p 0) same;
-      long = run-long s cs za;
+      long = run-long cs za;
     }
 
 pub crossing : CrossingLaw
-crossing s size d t cs za h = go (zero-or-more (slicesOf s size))
+crossing S B size d t cs za h = go (zero-or-more (slicesOf B size))
   where
     zero-or-more : (n : ℕ) → (n ≡ 0) ⊎ (0 < n)
     zero-or-more zero = inl refl
     zero-or-more (suc n) = inr (omega arith)
 
-    p : Parts s cs za (map (into size d t) (h .rows)) (map (out size (flip d) t) (h .columns))
-    p = parts s cs za (map (into size d t) (h .rows)) (map (out size (flip d) t) (h .columns)) (h .order)
+    p : Parts cs za (map (into S B size d t) (h .rows)) (map (out S B size (flip d) t) (h .columns))
+    p = parts cs za (map (into S B size d t) (h .rows)) (map (out S B size (flip d) t) (h .columns)) (h .order)
 
-    u : Trace s (into size d t) (p .first) za (h .rows)
-    u = trace s (into size d t) (p .first) za (h .rows) (p .firsts)
+    u : Trace (into S B size d t) (p .first) za (h .rows)
+    u = trace (into S B size d t) (p .first) za (h .rows) (p .firsts)
 
-    v : Trace s (out size (flip d) t) (p .second) (run s (p .first) za) (h .columns)
-    v = trace s (out size (flip d) t) (p .second) (run s (p .first) za) (h .columns) (p .seconds)
+    v : Trace (out S B size (flip d) t) (p .second) (run (p .first) za) (h .columns)
+    v = trace (out S B size (flip d) t) (p .second) (run (p .first) za) (h .columns) (p .seconds)
 
-    go : (slicesOf s size ≡ 0) ⊎ (0 < slicesOf s size) → Crossed s size d t cs za
-    go (inl e) = no-slices s size d t cs za e (quiet s cs za (h .order ∙ rw (empty (h .rows) (h .eachRow .many ∙ e), empty (h .columns) (h .eachColumn .many ∙ e))))
+    go : (slicesOf B size ≡ 0) ⊎ (0 < slicesOf B size) → Crossed S B size d t cs za
+    go (inl e) = no-slices S B size d t cs za e (quiet cs za (h .order ∙ rw (empty (h .rows) (h .eachRow .many ∙ e), empty (h .columns) (h .eachColumn .many ∙ e))))
     go (inr e) =
         let w = named u (rw (h .eachRow .many) e) in
-        let i = into-call s (w .call) (w .za) size d t (w .slice) (w .move) in
-        subst (λ (l : List Call). Crossed s size d t l za) (sym (p .whole))
-        (crossed s size d t (i .vector) (i .tile) za (p .first) (p .second) (h .rows) (h .columns) u v (h .eachRow) (h .eachColumn))
+        let i = into-call (w .call) (w .za) S B size d t (w .slice) (w .move) in
+        subst (λ (l : List Call). Crossed S B size d t l za) (sym (p .whole))
+        (crossed S B size d t (i .vector) (i .fits) (i .tile) za (p .first) (p .second) (h .rows) (h .columns) u v (h .eachRow) (h .eachColumn))

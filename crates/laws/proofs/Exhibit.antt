@@ -34,9 +34,9 @@ use Rattle.execute.specs.Effect.{selected}
 use Rattle.execute.specs.Execute.{validLengths, operationAnswer}
 use Rattle.execute.proofs.LengthLaws.{whole}
 use Rattle.execute.proofs.ExecuteLaws.{Refusal, done-when}
-use Rattle.laws.specs.Calls.{Call, stateWith, outcome, zaAfter, run, Move, into, out, moveOf, decodedMove, ifDoneMove, moved, withMove, moves}
+use Rattle.laws.specs.Calls.{Call, stateWith, outcome, zaAfter, run, Move, into, out, decodedOf, moveAt, decodedMove, ifDoneMove, moved, withMove, moves}
 use Rattle.laws.specs.Crossing.{times, slicesOf}
-use Rattle.laws.specs.Exhibit.{inward, outward, wordFor, callOn, crossingCalls, Below, ListsExist, downFrom, OrdersExist, RefusedMayStand}
+use Rattle.laws.specs.Exhibit.{inward, outward, wordFor, callOn, crossingCalls, Ready, Below, ListsExist, downFrom, OrdersExist, RefusedMayStand}
 use Rattle.laws.proofs.CallLaws.{CallEnds, moves-by, rests, call-ends, none-some, call-long, run-long}
 use Rattle.laws.proofs.PhaseLaws.{by-test, times-here, times-past}
 
@@ -102,93 +102,97 @@ selects n k h few =
     small : k + n < 2 ^ 32
     small = omega arith
 
-module _ (s : Settings) (zs ps : ℕ → List ℕ) (valid : isVectorLength (s .«vector_bytes») ≡ true) (level : s .level ≡ maxLevel) (streaming : s .streaming ≡ true) (on : s .za ≡ true) (long-z : (k : ℕ) → length (zs k) ≡ 32 * s .«vector_bytes») (long-p : (k : ℕ) → length (ps k) ≡ 16 * (s .«vector_bytes» / 8)) (low : s .«memory_address» ≤ 2 ^ 64) where
+module _ (B n : ℕ) (ss : ℕ → Settings) (zs ps : ℕ → List ℕ) (valid : isVectorLength B ≡ true) (k : ℕ) (ready : Ready B (ss k) (zs k) (ps k)) (za : List ℕ) (long : length za ≡ B * B) where
   -- the lengths are right
-  lengths-valid : (k v : ℕ) (za : List ℕ) → length za ≡ s .«vector_bytes» * s .«vector_bytes» → validLengths s (length (set (replicate 32 0) 12 v)) (length (zs k)) (length (ps k)) (length za) 0 ≡ true
-  lengths-valid k v za e =
-      rw (length-set (replicate 32 0) 12 v, long-z k, long-p k, e, eq-eqb (32 * s .«vector_bytes») _ refl, eq-eqb (16 * (s .«vector_bytes» / 8)) _ refl, eq-eqb (s .«vector_bytes» * s .«vector_bytes») _ refl)
-      (le-leb (s .«memory_address» + 0) (2 ^ 64) (omega arith))
+  lengths-valid : (v : ℕ) → validLengths (ss k) (length (set (replicate 32 0) 12 v)) (length (zs k)) (length (ps k)) (length za) 0 ≡ true
+  lengths-valid v =
+      rw (ready .vector, length-set (replicate 32 0) 12 v, ready .vectors, ready .predicates, long, eq-eqb (32 * B) _ refl, eq-eqb (16 * (B / 8)) _ refl, eq-eqb (B * B) _ refl)
+      (le-leb (ss k .«memory_address» + 0) (2 ^ 64) (omega (arith, ready .address)))
 
   -- so a call whose operation is never refused is done
-  call-done : (n : ℕ) (o : Operation) (k : ℕ) (za : List ℕ) → length za ≡ s .«vector_bytes» * s .«vector_bytes» → decodeOf (wordFor o) maxLevel ≡ decoded.Done o → operationAnswer s (set (replicate 32 0) 12 (k + n)) (ps k) 0 o ≡ Done → moved s (callOn n o zs ps k) za ≡ some (moveOf s (callOn n o zs ps k) o)
+  call-done : (o : Operation) → decodeOf (wordFor o) maxLevel ≡ decoded.Done o → operationAnswer (ss k) (set (replicate 32 0) 12 (k + n)) (ps k) 0 o ≡ Done → moved (callOn n o ss zs ps k) za ≡ some (moveAt B B (callOn n o ss zs ps k) o)
   unfolding moved
-  call-done n o k za e dec ans =
-      let c = callOn n o zs ps k in
-      let dec′ : decodeOf (wordFor o) (s .level) ≡ decoded.Done o = ap (decodeOf (wordFor o)) level ∙ dec in
-      let settings : validSettings (s .«vector_bytes») (s .level) ≡ true = rw (valid, level) in
-      ap (λ (a : Executed). ifDoneMove a (decodedMove s c (decodeOf (wordFor o) (s .level))))
-      (done-when s (wordFor o) (c .x) (c .p) (stateWith c za) o settings (lengths-valid k (k + n) za e) dec′ streaming on ans) ∙
-      ap (decodedMove s c) dec′
+  call-done o means ans =
+      let c = callOn n o ss zs ps k in
+      let decodes : decodedOf c ≡ decoded.Done o = ap (decodeOf (wordFor o)) (ready .level) ∙ means in
+      let settings : validSettings (ss k .«vector_bytes») (ss k .level) ≡ true = rw (ready .vector, valid, ready .level) in
+      ap (λ (a : Executed). ifDoneMove a (decodedMove c (decodedOf c)))
+      (done-when (ss k) (wordFor o) (c .x) (c .p) (stateWith c za) o settings (lengths-valid (k + n)) decodes (ready .streaming) (ready .za) ans) ∙
+      ap (decodedMove c) decodes ∙
+      ap (λ (b : ℕ). some (moveAt b b c o)) (ready .vector)
 
-  -- the moves of calls on slices below n, each of which is done with its own move
-  list-moves : (n : ℕ) (call : ℕ → Call) (f : ℕ → Move) → ((k : ℕ) (za : List ℕ) → k < n → length za ≡ s .«vector_bytes» * s .«vector_bytes» → moved s (call k) za ≡ some (f k)) → (l : List ℕ) (rest : List Call) (za : List ℕ) → Below n l → length za ≡ s .«vector_bytes» * s .«vector_bytes» → moves s (map call l ++ rest) za ≡ map f l ++ moves s rest (run s (map call l) za)
-  unfolding moves run
-  list-moves n call f h [] rest za b e = refl
-  list-moves n call f h (x ∷ l) rest za b e =
-      rw (h x za (b .0) e)
-      (ap (λ (t : List Move). f x ∷ t) (list-moves n call f h l rest (zaAfter s (call x) za) (b .1) (call-long s (call x) za ∙ e)))
+-- the moves of calls on slices below n, each of which is done with its own move at any ZA of a length
+list-moves : (n long : ℕ) (call : ℕ → Call) (f : ℕ → Move) → ((k : ℕ) (za : List ℕ) → k < n → length za ≡ long → moved (call k) za ≡ some (f k)) → (l : List ℕ) (rest : List Call) (za : List ℕ) → Below n l → length za ≡ long → moves (map call l ++ rest) za ≡ map f l ++ moves rest (run (map call l) za)
+unfolding moves run
+list-moves n long call f h [] rest za b e = refl
+list-moves n long call f h (x ∷ l) rest za b e =
+    rw (h x za (b .0) e)
+    (ap (λ (t : List Move). f x ∷ t) (list-moves n long call f h l rest (zaAfter (call x) za) (b .1) (call-long (call x) za ∙ e)))
 
 -- ---- the list
 
 pub lists-exist : ListsExist
 unfolding moves
-lists-exist s size d t zs ps rows columns za valid level streaming on tile long-z long-p long-za low eachRow belowRow eachColumn belowColumn =
+lists-exist B size d t ss zs ps rows columns za valid tile ready long-za eachRow belowRow eachColumn belowColumn =
     record { rows = rows; columns = columns; order = order; eachRow = eachRow; eachColumn = eachColumn }
   where
-    few : slicesOf s size ≤ 256
-    few = whole size (s .«vector_bytes») valid .few
+    n : ℕ
+    n = slicesOf B size
 
-    goes-in : (k : ℕ) (a : List ℕ) → k < slicesOf s size → length a ≡ s .«vector_bytes» * s .«vector_bytes» → moved s (callOn (slicesOf s size) (inward size d t) zs ps k) a ≡ some (into size d t k)
+    few : n ≤ 256
+    few = whole size B valid .few
+
+    inCall : ℕ → Call
+    inCall = callOn n (inward size d t) ss zs ps
+
+    outCall : ℕ → Call
+    outCall = callOn n (outward size (flip d) t) ss zs ps
+
+    goes-in : (k : ℕ) (a : List ℕ) → k < n → length a ≡ B * B → moved (inCall k) a ≡ some (into B B size d t k)
     goes-in k a h e =
-        call-done s zs ps valid level streaming on long-z long-p low (slicesOf s size) (inward size d t) k a e (inward-decodes size d t tile) refl ∙
-        ap (λ (j : ℕ). some (into size d t j)) (selects (slicesOf s size) k h few)
+        call-done B n ss zs ps valid k (ready k h) a e (inward size d t) (inward-decodes size d t tile) refl ∙
+        ap (λ (j : ℕ). some (into B B size d t j)) (selects n k h few)
 
-    comes-out : (k : ℕ) (a : List ℕ) → k < slicesOf s size → length a ≡ s .«vector_bytes» * s .«vector_bytes» → moved s (callOn (slicesOf s size) (outward size (flip d) t) zs ps k) a ≡ some (out size (flip d) t k)
+    comes-out : (k : ℕ) (a : List ℕ) → k < n → length a ≡ B * B → moved (outCall k) a ≡ some (out B B size (flip d) t k)
     comes-out k a h e =
-        call-done s zs ps valid level streaming on long-z long-p low (slicesOf s size) (outward size (flip d) t) k a e (outward-decodes size (flip d) t tile) refl ∙
-        ap (λ (j : ℕ). some (out size (flip d) t j)) (selects (slicesOf s size) k h few)
-
-    inCalls : List Call
-    inCalls = map (callOn (slicesOf s size) (inward size d t) zs ps) rows
-
-    outCalls : List Call
-    outCalls = map (callOn (slicesOf s size) (outward size (flip d) t) zs ps) columns
+        call-done B n ss zs ps valid k (ready k h) a e (outward size (flip d) t) (outward-decodes size (flip d) t tile) refl ∙
+        ap (λ (j : ℕ). some (out B B size (flip d) t j)) (selects n k h few)
 
     za₁ : List ℕ
-    za₁ = run s inCalls za
+    za₁ = run (map inCall rows) za
 
     -- the second half, which nothing follows
-    last : moves s outCalls za₁ ≡ map (out size (flip d) t) columns
+    last : moves (map outCall columns) za₁ ≡ map (out B B size (flip d) t) columns
     last =
-        ap (λ (l : List Call). moves s l za₁) (sym (append-nil outCalls)) ∙
-        list-moves s zs ps valid level streaming on long-z long-p low (slicesOf s size) (callOn (slicesOf s size) (outward size (flip d) t) zs ps) (out size (flip d) t) comes-out columns [] za₁ belowColumn (run-long s inCalls za ∙ long-za) ∙
-        append-nil (map (out size (flip d) t) columns)
+        ap (λ (l : List Call). moves l za₁) (sym (append-nil (map outCall columns))) ∙
+        list-moves n (B * B) outCall (out B B size (flip d) t) comes-out columns [] za₁ belowColumn (run-long (map inCall rows) za ∙ long-za) ∙
+        append-nil (map (out B B size (flip d) t) columns)
 
-    order : moves s (crossingCalls (slicesOf s size) size d t zs ps rows columns) za ≡ map (into size d t) rows ++ map (out size (flip d) t) columns
+    order : moves (crossingCalls n size d t ss zs ps rows columns) za ≡ map (into B B size d t) rows ++ map (out B B size (flip d) t) columns
     order =
-        list-moves s zs ps valid level streaming on long-z long-p low (slicesOf s size) (callOn (slicesOf s size) (inward size d t) zs ps) (into size d t) goes-in rows outCalls za belowRow long-za ∙
-        ap (λ (l : List Move). map (into size d t) rows ++ l) last
+        list-moves n (B * B) inCall (into B B size d t) goes-in rows (map outCall columns) za belowRow long-za ∙
+        ap (λ (l : List Move). map (into B B size d t) rows ++ l) last
 
 -- ---- refused calls
 
 -- a call with no move changes neither ZA nor the moves of the calls around it
-insert-moves : (s : Settings) (before after : List Call) (c : Call) (za : List ℕ) → moved s c (run s before za) ≡ none → moves s (before ++ c ∷ after) za ≡ moves s (before ++ after) za
+insert-moves : (before after : List Call) (c : Call) (za : List ℕ) → moved c (run before za) ≡ none → moves (before ++ c ∷ after) za ≡ moves (before ++ after) za
 unfolding moves run
-insert-moves s [] after c za e = rw e (go (call-ends s c za))
+insert-moves [] after c za e = rw e (go (call-ends c za))
   where
-    go : CallEnds s c za → moves s after (zaAfter s c za) ≡ moves s after za
+    go : CallEnds c za → moves after (zaAfter c za) ≡ moves after za
     go (moves-by o d q) = absurd (none-some (sym e ∙ q))
-    go (rests q r) = ap (moves s after) r
-insert-moves s (b ∷ before) after c za e = ap (withMove (moved s b za)) (insert-moves s before after c (zaAfter s b za) e)
+    go (rests q r) = ap (moves after) r
+insert-moves (b ∷ before) after c za e = ap (withMove (moved b za)) (insert-moves before after c (zaAfter b za) e)
 
 -- a refused call has no move
-refused-none : (s : Settings) (c : Call) (za : List ℕ) → Refusal (outcome s c za .answer) → moved s c za ≡ none
-refused-none s c za n = go (call-ends s c za)
+refused-none : (c : Call) (za : List ℕ) → Refusal (outcome c za .answer) → moved c za ≡ none
+refused-none c za n = go (call-ends c za)
   where
-    go : CallEnds s c za → moved s c za ≡ none
+    go : CallEnds c za → moved c za ≡ none
     go (moves-by o d q) = absurd (n (d .answer))
     go (rests q r) = q
 
 pub refused-may-stand : RefusedMayStand
-refused-may-stand s size d t before after c za h n =
-    record { rows = h .rows; columns = h .columns; order = insert-moves s before after c za (refused-none s c (run s before za) n) ∙ h .order; eachRow = h .eachRow; eachColumn = h .eachColumn }
+refused-may-stand S B size d t before after c za h n =
+    record { rows = h .rows; columns = h .columns; order = insert-moves before after c za (refused-none c (run before za) n) ∙ h .order; eachRow = h .eachRow; eachColumn = h .eachColumn }

@@ -6,7 +6,6 @@ use mathlib.Core.List.{List, [], _∷_, _++_, map}
 use native.Mathlib.Omega.{arith}
 use lib.ListN.{length, getD, replicate}
 use Rattle.settings.specs.Settings.{isVectorLength}
-use Rattle.settings.specs.declared.Settings.{Settings}
 use Rattle.encoding.specs.Table.{table}
 use Rattle.encoding.specs.Codec.{rowOfWord, decodeOf}
 use Rattle.encoding.specs.declared.operation.ElementSize.{ElementSize}
@@ -18,12 +17,12 @@ use Rattle.execute.specs.declared.answer.Executed.{Executed}
 use Rattle.execute.specs.Answer.{executedNumber}
 use Rattle.execute.specs.Store.{least}
 use Rattle.execute.specs.Execute.{storeAnswer, answerOf, executeOf}
-use Rattle.execute.specs.Examples.{settingsAt, zaAt}
+use Rattle.execute.specs.Examples.{zaAt}
 use Rattle.execute.proofs.ExecuteLaws.{Refusal}
-use Rattle.laws.specs.Calls.{Call, outcome, run}
+use Rattle.laws.specs.Calls.{Call, run}
 use Rattle.laws.specs.Crossing.{times, Crosses}
-use Rattle.laws.specs.Exhibit.{shownRows, shownColumns, shownZ, shownP, refusedCalls, RefusalsShown, shownIn, shownOut, ListShown}
-use Rattle.laws.proofs.CallLaws.{run-long}
+use Rattle.laws.specs.Exhibit.{Ready, shownRows, shownColumns, shownSettings, shownZ, shownP, refusedCalls, numbersAt, RefusalsShown, shownIn, shownOut, ListShown}
+use Rattle.laws.proofs.CallLaws.{run-long, cons-same, nil-cons}
 use Rattle.laws.proofs.Exhibit.{lists-exist, refused-may-stand}
 
 pub refusals-shown : RefusalsShown
@@ -32,29 +31,17 @@ refusals-shown za e = rw e refl
 
 -- ---- calls that are refused at every ZA of a length
 
-Refused : Settings → ℕ → List Call → Type 0
-Refused s n [] = Unit {0}
-Refused s n (c ∷ cs) = ((za : List ℕ) → length za ≡ n → Refusal (outcome s c za .answer)) × Refused s n cs
-
-put-in : (s : Settings) (size : ElementSize) (d : Direction) (t : ℕ) (before cs after : List Call) (za : List ℕ) (n : ℕ) → length za ≡ n → Refused s n cs → Crosses s size d t (before ++ after) za → Crosses s size d t (before ++ (cs ++ after)) za
-unfolding Refused
-put-in s size d t before [] after za n e r h = h
-put-in s size d t before (c ∷ cs) after za n e r h =
-    refused-may-stand s size d t before (cs ++ after) c za (put-in s size d t before cs after za n e (r .1) h) (r .0 (run s before za) (run-long s before za ∙ e))
-
 -- an answer with a number above 0 is a refusal
 numbered : (a : Executed) (n : ℕ) → executedNumber a ≡ suc n → Refusal a
 numbered a n e q = let z : _≡_ {A = ℕ} 0 (suc n) = sym (ap executedNumber q) ∙ e in omega arith
 
-refused : Refused (settingsAt 32 0) 1024 refusedCalls
-unfolding Refused
-refused = (
-  (λ za e. numbered _ 1 (ap (λ (l : List ℕ). getD l 0 0) (refusals-shown za e))),
-  (
-    (λ za e. numbered _ 2 (ap (λ (l : List ℕ). getD l 1 0) (refusals-shown za e))),
-    ((λ za e. numbered _ 6 (ap (λ (l : List ℕ). getD l 2 0) (refusals-shown za e))), tt {0}),
-  ),
-)
+-- calls with such answers may stand in a row anywhere in a crossing list
+put-in : (S B : ℕ) (size : ElementSize) (d : Direction) (t : ℕ) (before after : List Call) (za : List ℕ) (cs : List Call) (ns : List ℕ) → ((a : List ℕ) → length a ≡ length za → numbersAt cs a ≡ map suc ns) → Crosses S B size d t (before ++ after) za → Crosses S B size d t (before ++ (cs ++ after)) za
+put-in S B size d t before after za [] ns r h = h
+put-in S B size d t before after za (c ∷ cs) [] r h = absurd (nil-cons (sym (r za refl)))
+put-in S B size d t before after za (c ∷ cs) (n ∷ ns) r h =
+    refused-may-stand S B size d t before (cs ++ after) c za (put-in S B size d t before after za cs ns (λ a e. cons-same (r a e) .1) h)
+    (numbered _ n (cons-same (r (run before za) (run-long before za)) .0))
 
 -- ---- the orders
 
@@ -70,16 +57,21 @@ once l e (suc (suc (suc (suc (suc (suc zero)))))) h = ap (λ (q : List ℕ). get
 once l e (suc (suc (suc (suc (suc (suc (suc zero))))))) h = ap (λ (q : List ℕ). getD q 7 0) e
 once l e (suc (suc (suc (suc (suc (suc (suc (suc k)))))))) h = absurd (omega arith)
 
-plain : Crosses (settingsAt 32 0) Bits32 Horizontal 1 (shownIn ++ shownOut) (zaAt 32)
+ready : (k : ℕ) → k < 8 → Ready 32 (shownSettings k) (shownZ k) (shownP k)
+ready k h = record { vector = refl; level = refl; streaming = refl; za = refl; address = omega arith; vectors = refl; predicates = refl }
+
+plain : Crosses 32 32 Bits32 Horizontal 1 (shownIn ++ shownOut) (zaAt 32)
 unfolding isVectorLength times
 plain =
-    lists-exist (settingsAt 32 0) Bits32 Horizontal 1 shownZ shownP shownRows shownColumns (zaAt 32) refl refl refl refl (omega arith) (λ k. refl) (λ k. refl) refl (omega arith)
+    lists-exist 32 Bits32 Horizontal 1 shownSettings shownZ shownP shownRows shownColumns (zaAt 32) refl (omega arith) ready refl
     (record { many = refl; once = once shownRows refl }) (omega arith, (omega arith, (omega arith, (omega arith, (omega arith, (omega arith, (omega arith, (omega arith, tt {0}))))))))
     (record { many = refl; once = once shownColumns refl }) (omega arith, (omega arith, (omega arith, (omega arith, (omega arith, (omega arith, (omega arith, (omega arith, tt {0}))))))))
 
 pub list-shown : ListShown
 list-shown =
-    let s = settingsAt 32 0 in
-    put-in s Bits32 Horizontal 1 [] refusedCalls (shownIn ++ (refusedCalls ++ (shownOut ++ (refusedCalls ++ [])))) (zaAt 32) 1024 refl refused
-    (put-in s Bits32 Horizontal 1 shownIn refusedCalls (shownOut ++ (refusedCalls ++ [])) (zaAt 32) 1024 refl refused
-    (put-in s Bits32 Horizontal 1 (shownIn ++ shownOut) refusedCalls [] (zaAt 32) 1024 refl refused plain))
+    put [] (shownIn ++ (refusedCalls ++ (shownOut ++ (refusedCalls ++ []))))
+    (put shownIn (shownOut ++ (refusedCalls ++ []))
+    (put (shownIn ++ shownOut) [] plain))
+  where
+    put : (before after : List Call) → Crosses 32 32 Bits32 Horizontal 1 (before ++ after) (zaAt 32) → Crosses 32 32 Bits32 Horizontal 1 (before ++ (refusedCalls ++ after)) (zaAt 32)
+    put before after h = put-in 32 32 Bits32 Horizontal 1 before after (zaAt 32) refusedCalls (0 ∷ 1 ∷ 2 ∷ 3 ∷ 4 ∷ 5 ∷ 6 ∷ []) refusals-shown h

@@ -4,12 +4,10 @@
 use Prim.Native.Nat.{ℕ}
 use mathlib.Core.Path.{_≡_}
 use mathlib.Core.List.{List, _∷_, _++_}
-use Rattle.settings.specs.declared.Settings.{Settings}
-use Rattle.encoding.specs.Codec.{decodeOf}
 use Rattle.encoding.specs.declared.operation.Operation.{Operation}
 use Rattle.encoding.specs.declared.operation.Operation.the-variants.{MovaToTile, MovazFromTile, MovaFromArray, MovazFromArray, St1}
 use Rattle.encoding.specs.declared.operation.Decoded.the-variants.{Done}
-use Rattle.laws.specs.Calls.{Call, zaAfter, run}
+use Rattle.laws.specs.Calls.{Call, zaAfter, run, decodedOf}
 
 -- operations that do not write ZA
 abbrev pub Beside : Operation → Type 0
@@ -20,10 +18,10 @@ Beside (MovazFromArray o) = ⊥
 Beside (St1 o) = Unit {0}
 
 abbrev pub BesideKeepsZa : Type 0
-BesideKeepsZa = (s : Settings) (c : Call) (za : List ℕ) (o : Operation) → decodeOf (c .word) (s .level) ≡ Done o → Beside o → zaAfter s c za ≡ za
+BesideKeepsZa = (c : Call) (za : List ℕ) (o : Operation) → decodedOf c ≡ Done o → Beside o → zaAfter c za ≡ za
 
 -- with such a call put in anywhere, ZA ends as without it
 abbrev pub BesideMayRun : Type 0
 BesideMayRun =
-    (s : Settings) (before after : List Call) (c : Call) (za : List ℕ) (o : Operation) → decodeOf (c .word) (s .level) ≡ Done o → Beside o →
-    run s (before ++ c ∷ after) za ≡ run s (before ++ after) za
+    (before after : List Call) (c : Call) (za : List ℕ) (o : Operation) → decodedOf c ≡ Done o → Beside o →
+    run (before ++ c ∷ after) za ≡ run (before ++ after) za

@@ -17,8 +17,9 @@ use Rattle.execute.specs.declared.answer.Executed.the-variants.{Done, BadSettin
 use Rattle.execute.specs.Effect.{State, sliceIn, sliceOut}
 use Rattle.execute.specs.Execute.{Outcome, strideOf, executeOf}
 
--- what a call has of its own: all but the settings and ZA, of any content and length
+-- what a call has of its own: all but ZA, of any content and length
 pub record Call : Type 0 where
+  pub settings : Settings
   pub word : ℕ
   pub x : List ℕ
   pub z : List ℕ
@@ -29,34 +30,43 @@ abbrev pub stateWith : Call → List ℕ → State
 stateWith c za = record { z = c .z; za = za; memory = c .memory }
 
 -- the call's outcome at the ZA that it meets
-abbrev pub outcome : Settings → Call → List ℕ → Outcome
-outcome s c za = executeOf s (c .word) (c .x) (c .p) (stateWith c za)
+abbrev pub outcome : Call → List ℕ → Outcome
+outcome c za = executeOf (c .settings) (c .word) (c .x) (c .p) (stateWith c za)
 
-abbrev pub zaAfter : Settings → Call → List ℕ → List ℕ
-zaAfter s c za = outcome s c za .state .za
+abbrev pub zaAfter : Call → List ℕ → List ℕ
+zaAfter c za = outcome c za .state .za
 
 -- ZA after the calls, each of which meets it as the one before left it
-unfoldable pub run : Settings → List Call → List ℕ → List ℕ
-run s [] za = za
-run s (c ∷ cs) za = run s cs (zaAfter s c za)
+unfoldable pub run : List Call → List ℕ → List ℕ
+run [] za = za
+run (c ∷ cs) za = run cs (zaAfter c za)
 
--- what an operation is to a tile: size, direction, tile and the slice that W and the offset give
+-- what the call's word means at its own level
+abbrev pub decodedOf : Call → Decoded
+decodedOf c = decodeOf (c .word) (c .settings .level)
+
+-- what an operation is to a tile: how far apart vectors start (S) and how long they are (B), which are equal for now; size,
+-- direction and tile; and the slice that W and the offset give
 pub data Move : Type 0 where
-  into : ElementSize → Direction → ℕ → ℕ → Move
-  out : ElementSize → Direction → ℕ → ℕ → Move
+  into : (S B : ℕ) (size : ElementSize) (d : Direction) (t slice : ℕ) → Move
+  out : (S B : ℕ) (size : ElementSize) (d : Direction) (t slice : ℕ) → Move
   other : Move
 
-abbrev pub moveOf : Settings → Call → Operation → Move
-moveOf s c (MovaToTile o) = into (o .size) (o .direction) (o .zad) (sliceIn (strideOf s) (s .«vector_bytes») (c .x) (c .p) o)
-moveOf s c (MovazFromTile o) = out (o .size) (o .direction) (o .zan) (sliceOut (strideOf s) (s .«vector_bytes») (c .x) (c .p) o)
-moveOf s c (MovaFromArray o) = other
-moveOf s c (MovazFromArray o) = other
-moveOf s c (St1 o) = other
+abbrev pub moveAt : ℕ → ℕ → Call → Operation → Move
+moveAt S B c (MovaToTile o) = into S B (o .size) (o .direction) (o .zad) (sliceIn S B (c .x) (c .p) o)
+moveAt S B c (MovazFromTile o) = out S B (o .size) (o .direction) (o .zan) (sliceOut S B (c .x) (c .p) o)
+moveAt S B c (MovaFromArray o) = other
+moveAt S B c (MovazFromArray o) = other
+moveAt S B c (St1 o) = other
 
-abbrev pub decodedMove : Settings → Call → Decoded → Option Move
-decodedMove s c (decoded.Done o) = some (moveOf s c o)
-decodedMove s c decoded.BadLevel = none
-decodedMove s c decoded.Undecodable = none
+-- with the stride and the vector length of the call's own settings
+abbrev pub moveOf : Call → Operation → Move
+moveOf c o = moveAt (strideOf (c .settings)) (c .settings .«vector_bytes») c o
+
+abbrev pub decodedMove : Call → Decoded → Option Move
+decodedMove c (decoded.Done o) = some (moveOf c o)
+decodedMove c decoded.BadLevel = none
+decodedMove c decoded.Undecodable = none
 
 abbrev pub ifDoneMove : Executed → Option Move → Option Move
 ifDoneMove Done m = m
@@ -69,17 +79,17 @@ ifDoneMove StackMisaligned m = none
 ifDoneMove (OutsideMemory a) m = none
 
 -- the move of a call that is done, nothing for one that is refused
-unfoldable pub moved : Settings → Call → List ℕ → Option Move
-moved s c za = ifDoneMove (outcome s c za .answer) (decodedMove s c (decodeOf (c .word) (s .level)))
+unfoldable pub moved : Call → List ℕ → Option Move
+moved c za = ifDoneMove (outcome c za .answer) (decodedMove c (decodedOf c))
 
 abbrev pub withMove : Option Move → List Move → List Move
 withMove none l = l
 withMove (some m) l = m ∷ l
 
 -- the moves of the done calls, in order
-unfoldable pub moves : Settings → List Call → List ℕ → List Move
-moves s [] za = []
-moves s (c ∷ cs) za = withMove (moved s c za) (moves s cs (zaAfter s c za))
+unfoldable pub moves : List Call → List ℕ → List Move
+moves [] za = []
+moves (c ∷ cs) za = withMove (moved c za) (moves cs (zaAfter c za))
 
 -- the register numbers of a tile move's word: Zn or Zd, and Pg
 abbrev pub vectorIn : Decoded → ℕ
@@ -100,8 +110,8 @@ predicateIn (decoded.Done (St1 o)) = 0
 predicateIn decoded.BadLevel = 0
 predicateIn decoded.Undecodable = 0
 
-abbrev pub vectorOf : Settings → Call → ℕ
-vectorOf s c = vectorIn (decodeOf (c .word) (s .level))
+abbrev pub vectorOf : Call → ℕ
+vectorOf c = vectorIn (decodedOf c)
 
-abbrev pub predicateOf : Settings → Call → ℕ
-predicateOf s c = predicateIn (decodeOf (c .word) (s .level))
+abbrev pub predicateOf : Call → ℕ
+predicateOf c = predicateIn (decodedOf c)

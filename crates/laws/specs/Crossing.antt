@@ -8,14 +8,12 @@ use mathlib.Core.List.{List, [], _∷_, _++_, map}
 use mathlib.Core.Option.{some}
 use lib.Dec.{eqb}
 use lib.ListN.{length, getD}
-use Rattle.settings.specs.declared.Settings.{Settings}
 use Rattle.encoding.specs.Flat.{bytesOf}
 use Rattle.encoding.specs.declared.operation.ElementSize.{ElementSize}
 use Rattle.encoding.specs.declared.operation.Direction.{Direction}
 use Rattle.tiles.specs.Scatter.{pick}
 use Rattle.tiles.specs.Predicate.{bit}
 use Rattle.tiles.specs.Tile.{flip, byteAt, byteOf, Outside}
-use Rattle.execute.specs.Execute.{strideOf}
 use Rattle.laws.specs.Calls.{Call, outcome, run, Move, into, out, moved, moves, vectorOf, predicateOf}
 
 -- how often k stands in a list
@@ -29,47 +27,48 @@ pub record EachOnce (n : ℕ) (l : List ℕ) : Type 0 where
   pub once : (k : ℕ) → k < n → times k l ≡ 1
 
 -- the slices of a tile, and so the elements of a slice
-abbrev pub slicesOf : Settings → ElementSize → ℕ
-slicesOf s size = s .«vector_bytes» / bytesOf size
+abbrev pub slicesOf : ℕ → ElementSize → ℕ
+slicesOf B size = B / bytesOf size
 
 -- Which lists of calls are meant: with whatever refused calls between them, the done calls move first into the slices of one
--- tile in direction d, each once, and then out of its slices in the other direction, each once. The settings are one for all.
--- Nothing else is assumed: a done move and zero itself shows that the level is 3, and a done call that lengths and registers are right.
-pub record Crosses (s : Settings) (size : ElementSize) (d : Direction) (t : ℕ) (cs : List Call) (za : List ℕ) : Type 0 where
+-- tile in direction d, each once, and then out of its slices in the other direction, each once, all with vectors B bytes long
+-- that start S bytes apart. Nothing else is assumed: each call has settings of its own, a done move and zero itself shows that
+-- its level is 3, and a done call that its switches are on and its lengths and registers right.
+pub record Crosses (S B : ℕ) (size : ElementSize) (d : Direction) (t : ℕ) (cs : List Call) (za : List ℕ) : Type 0 where
   pub rows : List ℕ
   pub columns : List ℕ
-  pub order : moves s cs za ≡ map (into size d t) rows ++ map (out size (flip d) t) columns
-  pub eachRow : EachOnce (slicesOf s size) rows
-  pub eachColumn : EachOnce (slicesOf s size) columns
+  pub order : moves cs za ≡ map (into S B size d t) rows ++ map (out S B size (flip d) t) columns
+  pub eachRow : EachOnce (slicesOf B size) rows
+  pub eachColumn : EachOnce (slicesOf B size) columns
 
 -- exactly one call of the list is done and has the move
-pub record Once (s : Settings) (cs : List Call) (za : List ℕ) (m : Move) : Type 0 where
+pub record Once (cs : List Call) (za : List ℕ) (m : Move) : Type 0 where
   pub before : List Call
   pub call : Call
   pub after : List Call
   pub place : cs ≡ before ++ call ∷ after
-  pub move : moved s call (run s before za) ≡ some m
-  pub only : (b a : List Call) (c : Call) → cs ≡ b ++ c ∷ a → moved s c (run s b za) ≡ some m → b ≡ before
+  pub move : moved call (run before za) ≡ some m
+  pub only : (b a : List Call) (c : Call) → cs ≡ b ++ c ∷ a → moved c (run b za) ≡ some m → b ≡ before
 
--- What is claimed, with S how far apart vectors and registers start.
-pub record Crossed (s : Settings) (size : ElementSize) (d : Direction) (t : ℕ) (cs : List Call) (za : List ℕ) : Type 0 where
+-- What is claimed, with S how far apart vectors and registers start, and B how long they are.
+pub record Crossed (S B : ℕ) (size : ElementSize) (d : Direction) (t : ℕ) (cs : List Call) (za : List ℕ) : Type 0 where
   -- exactly one call takes column k, and exactly one moves to row j
-  pub column : (k : ℕ) → k < slicesOf s size → Once s cs za (out size (flip d) t k)
-  pub row : (j : ℕ) → j < slicesOf s size → Once s cs za (into size d t j)
+  pub column : (k : ℕ) → k < slicesOf B size → Once cs za (out S B size (flip d) t k)
+  pub row : (j : ℕ) → j < slicesOf B size → Once cs za (into S B size d t j)
   -- At the end of the call that takes column k, byte i of element j of its register Zd is that byte of element k of the vector
   -- Zn moved to row j, as it stood at that move, if that move's predicate Pg was active at element k; if not, it is the tile's
   -- first content at row j, element k.
-  pub back : (k j i : ℕ) (hk : k < slicesOf s size) (hj : j < slicesOf s size) → i < bytesOf size →
-      getD (outcome s (column k hk .call) (run s (column k hk .before) za) .state .z) (vectorOf s (column k hk .call) * strideOf s + (j * bytesOf size + i)) 0 ≡
-      pick (bit (row j hj .call .p) (predicateOf s (row j hj .call) * (strideOf s / 8)) (k * bytesOf size))
-      (getD (row j hj .call .z) (vectorOf s (row j hj .call) * strideOf s + (k * bytesOf size + i)) 0)
-      (getD za (byteOf (strideOf s) (bytesOf size) t d j k i) 0)
+  pub back : (k j i : ℕ) (hk : k < slicesOf B size) (hj : j < slicesOf B size) → i < bytesOf size →
+      getD (outcome (column k hk .call) (run (column k hk .before) za) .state .z) (vectorOf (column k hk .call) * S + (j * bytesOf size + i)) 0 ≡
+      pick (bit (row j hj .call .p) (predicateOf (row j hj .call) * (S / 8)) (k * bytesOf size))
+      (getD (row j hj .call .z) (vectorOf (row j hj .call) * S + (k * bytesOf size + i)) 0)
+      (getD za (byteOf S (bytesOf size) t d j k i) 0)
   -- afterwards every byte of the tile lies in ZA and is zero, every other byte is as at the start, and so is the length
-  pub inside : (r k i : ℕ) → r < slicesOf s size → k < slicesOf s size → i < bytesOf size → byteAt (strideOf s) (bytesOf size) t r k i < length (run s cs za)
-  pub zeroed : (r k i : ℕ) → r < slicesOf s size → k < slicesOf s size → i < bytesOf size → getD (run s cs za) (byteAt (strideOf s) (bytesOf size) t r k i) 0 ≡ 0
-  pub kept : (p : ℕ) → Outside (strideOf s) (bytesOf size) (slicesOf s size) t p → getD (run s cs za) p 0 ≡ getD za p 0
-  pub long : length (run s cs za) ≡ length za
+  pub inside : (r k i : ℕ) → r < slicesOf B size → k < slicesOf B size → i < bytesOf size → byteAt S (bytesOf size) t r k i < length (run cs za)
+  pub zeroed : (r k i : ℕ) → r < slicesOf B size → k < slicesOf B size → i < bytesOf size → getD (run cs za) (byteAt S (bytesOf size) t r k i) 0 ≡ 0
+  pub kept : (p : ℕ) → Outside S (bytesOf size) (slicesOf B size) t p → getD (run cs za) p 0 ≡ getD za p 0
+  pub long : length (run cs za) ≡ length za
 
 -- the law: for every vector length, size, tile and direction; columns first and rows last is the other direction
 abbrev pub CrossingLaw : Type 0
-CrossingLaw = (s : Settings) (size : ElementSize) (d : Direction) (t : ℕ) (cs : List Call) (za : List ℕ) → Crosses s size d t cs za → Crossed s size d t cs za
+CrossingLaw = (S B : ℕ) (size : ElementSize) (d : Direction) (t : ℕ) (cs : List Call) (za : List ℕ) → Crosses S B size d t cs za → Crossed S B size d t cs za

@@ -1,9 +1,10 @@
 -- Lists of calls to which the crossing law applies, so that it is seen not to be empty: for every vector length, element size,
--- tile and direction, every order of the slices, and any content of ZA, of the vectors and of the predicates.
+-- tile and direction, every order of the slices, and any content of ZA, of the vectors and of the predicates; and refused calls
+-- of every answer in them.
 -- Assumes nothing.
 use Prim.Native.Nat.{ℕ, zero, suc, _+_, _*_, _/_, _^_, _<_, _≤_}
 use mathlib.Core.Path.{_≡_}
-use mathlib.Core.Bool.{true}
+use mathlib.Core.Bool.{Bool, true, false}
 use mathlib.Core.List.{List, [], _∷_, _++_, map}
 use lib.ListN.{length, getD, set, replicate}
 use Rattle.settings.specs.Settings.{isVectorLength, maxLevel}
@@ -34,26 +35,36 @@ outward size d t = MovazFromTile (record { size = size; direction = d; rs = 12; 
 abbrev pub wordFor : Operation → ℕ
 wordFor o = getD (encodedAnswer (encodeOf o) .values) 0 0
 
--- a call on slice k: the index register holds k + n; its own vectors and predicates, and no memory
-abbrev pub callOn : ℕ → Operation → (ℕ → List ℕ) → (ℕ → List ℕ) → ℕ → Call
-callOn n o zs ps k = record { word = wordFor o; x = set (replicate 32 0) 12 (k + n); z = zs k; p = ps k; memory = [] }
+-- a call on slice k: the index register holds k + n; its own settings, vectors and predicates, and no memory
+abbrev pub callOn : ℕ → Operation → (ℕ → Settings) → (ℕ → List ℕ) → (ℕ → List ℕ) → ℕ → Call
+callOn n o ss zs ps k = record { settings = ss k; word = wordFor o; x = set (replicate 32 0) 12 (k + n); z = zs k; p = ps k; memory = [] }
 
-abbrev pub crossingCalls : ℕ → ElementSize → Direction → ℕ → (ℕ → List ℕ) → (ℕ → List ℕ) → List ℕ → List ℕ → List Call
-crossingCalls n size d t zs ps rows columns =
-    map (callOn n (inward size d t) zs ps) rows ++ map (callOn n (outward size (flip d) t) zs ps) columns
+abbrev pub crossingCalls : ℕ → ElementSize → Direction → ℕ → (ℕ → Settings) → (ℕ → List ℕ) → (ℕ → List ℕ) → List ℕ → List ℕ → List Call
+crossingCalls n size d t ss zs ps rows columns =
+    map (callOn n (inward size d t) ss zs ps) rows ++ map (callOn n (outward size (flip d) t) ss zs ps) columns
+
+-- what such a call needs so as to be done with vectors of B bytes
+pub record Ready (B : ℕ) (s : Settings) (z p : List ℕ) : Type 0 where
+  pub vector : s .«vector_bytes» ≡ B
+  pub level : s .level ≡ maxLevel
+  pub streaming : s .streaming ≡ true
+  pub za : s .za ≡ true
+  pub address : s .«memory_address» ≤ 2 ^ 64
+  pub vectors : length z ≡ 32 * B
+  pub predicates : length p ≡ 16 * (B / 8)
 
 -- every number of a list is below n
 abbrev pub Below : ℕ → List ℕ → Type 0
 Below n [] = Unit {0}
 Below n (x ∷ l) = (x < n) × Below n l
 
+-- such calls, in any order of the slices, are a list that is meant; vectors start as far apart as they are long
 abbrev pub ListsExist : Type 0
 ListsExist =
-    (s : Settings) (size : ElementSize) (d : Direction) (t : ℕ) (zs ps : ℕ → List ℕ) (rows columns za : List ℕ) →
-    isVectorLength (s .«vector_bytes») ≡ true → s .level ≡ maxLevel → s .streaming ≡ true → s .za ≡ true → t < bytesOf size →
-    ((k : ℕ) → length (zs k) ≡ 32 * s .«vector_bytes») → ((k : ℕ) → length (ps k) ≡ 16 * (s .«vector_bytes» / 8)) → length za ≡ s .«vector_bytes» * s .«vector_bytes» → s .«memory_address» ≤ 2 ^ 64 →
-    EachOnce (slicesOf s size) rows → Below (slicesOf s size) rows → EachOnce (slicesOf s size) columns → Below (slicesOf s size) columns →
-    Crosses s size d t (crossingCalls (slicesOf s size) size d t zs ps rows columns) za
+    (B : ℕ) (size : ElementSize) (d : Direction) (t : ℕ) (ss : ℕ → Settings) (zs ps : ℕ → List ℕ) (rows columns za : List ℕ) →
+    isVectorLength B ≡ true → t < bytesOf size → ((k : ℕ) → k < slicesOf B size → Ready B (ss k) (zs k) (ps k)) → length za ≡ B * B →
+    EachOnce (slicesOf B size) rows → Below (slicesOf B size) rows → EachOnce (slicesOf B size) columns → Below (slicesOf B size) columns →
+    Crosses B B size d t (crossingCalls (slicesOf B size) size d t ss zs ps rows columns) za
 
 -- an order of the slices: downwards
 abbrev pub downFrom : ℕ → List ℕ
@@ -66,8 +77,8 @@ OrdersExist = (n : ℕ) → EachOnce n (downFrom n) × Below n (downFrom n)
 -- a refused call, with any answer but 0, may stand anywhere in such a list
 abbrev pub RefusedMayStand : Type 0
 RefusedMayStand =
-    (s : Settings) (size : ElementSize) (d : Direction) (t : ℕ) (before after : List Call) (c : Call) (za : List ℕ) →
-    Crosses s size d t (before ++ after) za → (outcome s c (run s before za) .answer ≡ Done → ⊥) → Crosses s size d t (before ++ c ∷ after) za
+    (S B : ℕ) (size : ElementSize) (d : Direction) (t : ℕ) (before after : List Call) (c : Call) (za : List ℕ) →
+    Crosses S B size d t (before ++ after) za → (outcome c (run before za) .answer ≡ Done → ⊥) → Crosses S B size d t (before ++ c ∷ after) za
 
 -- ---- one list in full: vectors of 32 bytes, four-byte elements, tile 1, slices in no order, partial predicates, bytes of ZA that
 -- are not zero and differ from their neighbours, and refused calls
@@ -78,30 +89,48 @@ shownRows = 3 ∷ 0 ∷ 6 ∷ 1 ∷ 7 ∷ 4 ∷ 2 ∷ 5 ∷ []
 abbrev pub shownColumns : List ℕ
 shownColumns = 5 ∷ 2 ∷ 0 ∷ 7 ∷ 3 ∷ 6 ∷ 1 ∷ 4 ∷ []
 
--- each call has vectors and predicates of its own
+-- each call has a memory address, vectors and predicates of its own
+abbrev pub shownSettings : ℕ → Settings
+shownSettings k = settingsAt 32 k
+
 abbrev pub shownZ : ℕ → List ℕ
 shownZ k = bytesFrom k 1024
 
 abbrev pub shownP : ℕ → List ℕ
 shownP k = bytesFrom k 64
 
--- too few numbers in X; a word that is no instruction; an active store with no memory
+abbrev pub refusedAt : Settings → ℕ → List ℕ → Call
+refusedAt s w x = record { settings = s; word = w; x = x; z = shownZ 0; p = shownP 0; memory = [] }
+
+abbrev pub switched : Bool → Bool → Settings
+switched streaming za = record { «vector_bytes» = 32; level = 3; streaming = streaming; za = za; «memory_address» = 0 }
+
+-- vectors of 17 bytes; too few numbers in X; a word that is no instruction; streaming off; ZA off; a stack pointer that is no
+-- multiple of 16; an active store with no memory
 abbrev pub refusedCalls : List Call
 refusedCalls =
-    record { word = 0xC0000000; x = []; z = shownZ 0; p = shownP 0; memory = [] } ∷
-    record { word = 0xC0000010; x = replicate 32 0; z = shownZ 0; p = shownP 0; memory = [] } ∷
-    record { word = 0xE0220020; x = replicate 32 0; z = shownZ 0; p = shownP 0; memory = [] } ∷ []
+    refusedAt (settingsAt 17 0) 0xC0000000 (replicate 32 0) ∷
+    refusedAt (settingsAt 32 0) 0xC0000000 [] ∷
+    refusedAt (settingsAt 32 0) 0xC0000010 (replicate 32 0) ∷
+    refusedAt (switched false true) 0xC0000000 (replicate 32 0) ∷
+    refusedAt (switched true false) 0xC0000000 (replicate 32 0) ∷
+    refusedAt (settingsAt 32 0) 0xE03F03E0 (set (replicate 32 0) 31 0x1008) ∷
+    refusedAt (settingsAt 32 0) 0xE0220020 (replicate 32 0) ∷ []
 
--- they are refused with 2, 3 and 7, at any ZA of the right length
+-- the numbers of the calls' answers at a ZA
+abbrev pub numbersAt : List Call → List ℕ → List ℕ
+numbersAt cs za = map (λ (c : Call). executedNumber (outcome c za .answer)) cs
+
+-- they are refused with 1 to 7 in turn, at any ZA of the right length
 abbrev pub RefusalsShown : Type 0
-RefusalsShown = (za : List ℕ) → length za ≡ 1024 → map (λ (c : Call). executedNumber (outcome (settingsAt 32 0) c za .answer)) refusedCalls ≡ 2 ∷ 3 ∷ 7 ∷ []
+RefusalsShown = (za : List ℕ) → length za ≡ 1024 → numbersAt refusedCalls za ≡ 1 ∷ 2 ∷ 3 ∷ 4 ∷ 5 ∷ 6 ∷ 7 ∷ []
 
 -- the list, with those before, between and after its moves
 abbrev pub shownIn : List Call
-shownIn = map (callOn 8 (inward Bits32 Horizontal 1) shownZ shownP) shownRows
+shownIn = map (callOn 8 (inward Bits32 Horizontal 1) shownSettings shownZ shownP) shownRows
 
 abbrev pub shownOut : List Call
-shownOut = map (callOn 8 (outward Bits32 Vertical 1) shownZ shownP) shownColumns
+shownOut = map (callOn 8 (outward Bits32 Vertical 1) shownSettings shownZ shownP) shownColumns
 
 abbrev pub ListShown : Type 0
-ListShown = Crosses (settingsAt 32 0) Bits32 Horizontal 1 (refusedCalls ++ (shownIn ++ (refusedCalls ++ (shownOut ++ (refusedCalls ++ []))))) (zaAt 32)
+ListShown = Crosses 32 32 Bits32 Horizontal 1 (refusedCalls ++ (shownIn ++ (refusedCalls ++ (shownOut ++ (refusedCalls ++ []))))) (zaAt 32)
