@@ -10,7 +10,7 @@ use lib.ListN.{length, getD, set, replicate}
 use Rattle.settings.specs.Settings.{isVectorLength, maxLevel}
 use Rattle.settings.specs.declared.Settings.{Settings}
 use Rattle.encoding.specs.Flat.{bytesOf}
-use Rattle.encoding.specs.Answer.{encodedAnswer}
+use Rattle.encoding.specs.Answer.{encodedWord}
 use Rattle.encoding.specs.Codec.{encodeOf}
 use Rattle.encoding.specs.declared.operation.ElementSize.{ElementSize}
 use Rattle.encoding.specs.declared.operation.ElementSize.the-variants.{Bits32}
@@ -33,7 +33,7 @@ abbrev pub outward : ElementSize → Direction → ℕ → Operation
 outward size d t = MovazFromTile (record { size = size; direction = d; rs = 12; zan = t; off = 0; zd = 0 })
 
 abbrev pub wordFor : Operation → ℕ
-wordFor o = getD (encodedAnswer (encodeOf o) .values) 0 0
+wordFor o = encodedWord (encodeOf o)
 
 -- a call on slice k: the index register holds k + n; its own settings, vectors and predicates, and no memory
 abbrev pub callOn : ℕ → Operation → (ℕ → Settings) → (ℕ → List ℕ) → (ℕ → List ℕ) → ℕ → Call

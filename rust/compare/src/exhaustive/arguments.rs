@@ -29,6 +29,9 @@ impl Display for Part {
     }
 }
 
+/// More than any machine has cores, and few enough to be started.
+const MAX_THREADS: usize = 1024;
+
 /// What is compared, and on how many threads.
 #[derive(Clone, Debug, PartialEq, Eq)]
 pub struct Arguments {
@@ -95,8 +98,8 @@ impl Arguments {
         if self.from > self.to {
             return Err("--from: the first word is above the last".to_string());
         }
-        if self.workers.threads == 0 {
-            return Err("--threads: at least one is needed".to_string());
+        if !(1..=MAX_THREADS).contains(&self.workers.threads) {
+            return Err(format!("--threads: from 1 to {MAX_THREADS}"));
         }
         Ok(self)
     }
