@@ -1,5 +1,5 @@
 -- The worked examples of 01 §7 marked *, as far as they speak of words: the part of the one claim about them
--- (specs/Examples.antt of the crate execute) that says what the words mean, with 11. To believe: the three lists.
+-- (specs/Examples.antt of the crate execution) that says what the words mean, with 11. To believe: the three lists.
 -- Assumes nothing.
 use Prim.Native.Nat.{ℕ}
 use mathlib.Core.Path.{_≡_}

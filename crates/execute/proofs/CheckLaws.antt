@@ -9,9 +9,9 @@ use Rattle.settings.specs.Settings.{isVectorLength, validSettings, maxLevel}
 use Rattle.settings.specs.declared.Settings.{Settings}
 use Rattle.settings.proofs.SettingsLaws.{vector-length-small}
 use Rattle.execute.specs.declared.check.Buffers.the-variants.{Valid, BadSettings, BadLengths}
-use Rattle.execute.specs.Execute.{validLengths}
+use Rattle.execution.specs.Execute.{validLengths}
 use Rattle.execute.specs.Promise.{checkOf}
-use Rattle.execute.proofs.ExecuteLaws.{Lengths, lengths-facts}
+use Rattle.execution.proofs.ExecuteLaws.{Lengths, lengths-facts}
 
 pub vector-valid : (s : Settings) → validSettings (s .«vector_bytes») (s .level) ≡ true → isVectorLength (s .«vector_bytes») ≡ true
 vector-valid s e = and-eq-true-iff (isVectorLength (s .«vector_bytes»)) (leb (s .level) maxLevel) .0 e .0

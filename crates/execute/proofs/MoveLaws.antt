@@ -10,7 +10,6 @@ use lib.ListN.{getD}
 use Rattle.settings.specs.Settings.{isVectorLength}
 use Rattle.settings.proofs.SettingsLaws.{five-lengths}
 use Rattle.encoding.specs.Flat.{bytesOf, registersOf}
-use Rattle.encoding.specs.declared.operation.ElementSize.{ElementSize}
 use Rattle.encoding.specs.declared.operation.RegisterCount.{RegisterCount}
 use Rattle.encoding.specs.declared.operation.RegisterCount.the-variants.{Two, Four}
 use Rattle.encoding.specs.declared.operation.ArrayToVectors.{ArrayToVectors}
@@ -21,28 +20,14 @@ use Rattle.tiles.specs.Predicate.{active}
 use Rattle.tiles.specs.Tile.{sliceAt}
 use Rattle.tiles.specs.Group.{groupOf, groupAt}
 use Rattle.tiles.proofs.Claims.{groups-differ}
-use Rattle.moves.specs.Slice.{Placed}
-use Rattle.execute.specs.Effect.{movedToTile, takenFromTile, zeroedInTile, takenFromArray, zeroedInArray}
-use Rattle.execute.proofs.LengthLaws.{whole}
+use Rattle.execution.specs.Effect.{movedToTile, takenFromTile, zeroedInTile, takenFromArray, zeroedInArray}
+use Rattle.tiles.proofs.LengthLaws.{whole}
 
 -- register r of a number of registers of B bytes each lies within them
 pub register-within : (B r count : ℕ) → r < count → r * B + B ≤ count * B
 register-within B r count h =
     let above : r + 1 ≤ count = omega arith in
     omega (arith, mul-le-mul-right B above, add-mul r 1 B, one-mul B)
-
--- a slice of a tile in vectors that start B apart
-pub placed : (size : ElementSize) (B t s : ℕ) → isVectorLength B ≡ true → t < bytesOf size → s < B / bytesOf size → Placed B B (bytesOf size) (B / bytesOf size) t s
-placed size B t s v below slice =
-    let w = whole size B v in
-    record {
-      size = w .elements;
-      fit = omega arith;
-      longest = w .longest;
-      sixteens = omega (arith, w .sixteens);
-      tile = below;
-      slice = slice;
-    }
 
 -- groups of r vectors among B
 pub record Groups (B r : ℕ) : Type 0 where

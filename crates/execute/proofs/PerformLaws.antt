@@ -16,15 +16,16 @@ use Rattle.encoding.specs.declared.operation.Operation.{Operation}
 use Rattle.encoding.specs.declared.operation.Operation.the-variants.{St1}
 use Rattle.encoding.specs.declared.operation.Decoded.{Decoded}
 use Rattle.encoding.specs.declared.operation.Decoded.the-variants as decoded
-use Rattle.execute.specs.declared.answer.Executed.{Executed}
-use Rattle.execute.specs.declared.answer.Executed.the-variants.{Done, BadSettings, BadLengths, Undecodable, StreamingOff, ZaOff}
+use Rattle.execution.specs.declared.answer.Executed.{Executed}
+use Rattle.execution.specs.declared.answer.Executed.the-variants.{Done, BadSettings, BadLengths, Undecodable, StreamingOff, ZaOff}
 use Rattle.execute.specs.declared.check.Buffers.the-variants as check
-use Rattle.execute.specs.Answer.{executedNumber, executedAddress}
-use Rattle.execute.specs.Effect.{State, effectOf}
-use Rattle.execute.specs.Execute.{guard, strideOf, validLengths, operationAnswer, decodedAnswer, answerOf, decodedEffect, ifDone, executeOf}
-use Rattle.execute.specs.Promise.{Executes, pickBuffers, checkOf, Performs, Ready, Sized, StoreReady, Stores}
+use Rattle.execution.specs.Answer.{executedNumber, executedAddress}
+use Rattle.execution.specs.Effect.{State, effectOf}
+use Rattle.execution.specs.Execute.{guard, strideOf, validLengths, operationAnswer, decodedAnswer, answerOf, decodedEffect, ifDone, executeOf}
+use Rattle.store.specs.Promise.{StoreReady, Stores}
+use Rattle.execute.specs.Promise.{Executes, pickBuffers, checkOf, Performs, Ready, Sized}
 use Rattle.execute.proofs.CheckLaws.{vector-valid}
-use Rattle.execute.proofs.ExecuteLaws.{Refusal, refusal-settings, refusal-lengths, refusal-undecodable, refusal-streaming, refusal-za, refused-stays, answered, lengths-facts}
+use Rattle.execution.proofs.ExecuteLaws.{Refusal, refusal-settings, refusal-lengths, refusal-undecodable, refusal-streaming, refusal-za, refused-stays, answered, lengths-facts}
 
 -- what the check of settings and lengths found says of its two tests
 found-valid : (a b : Bool) → pickBuffers a (pickBuffers b check.Valid check.BadLengths) check.BadSettings ≡ check.Valid → (a ≡ true) × (b ≡ true)

@@ -1,7 +1,1 @@
--- In reading order.
-pub mod Answer
-pub mod Store
-pub mod Effect
-pub mod Execute
-pub mod Examples
 pub mod Promise

@@ -1,23 +1,19 @@
 -- What the functions of this crate promise.
 -- Assumes nothing.
-use Prim.Native.Nat.{ℕ, _≤_, _+_, _-_, _^_}
+use Prim.Native.Nat.{ℕ}
 use mathlib.Core.Path.{_≡_}
-use mathlib.Core.Bool.{Bool, true, false, _&&_}
+use mathlib.Core.Bool.{Bool, true, false}
 use mathlib.Core.List.{List}
-use lib.Dec.{leb}
 use lib.ListN.{length}
 use Rattle.settings.specs.Settings.{isVectorLength, validSettings, xNumbers, zBytes, pBytes, zaBytes}
 use Rattle.settings.specs.declared.Settings.{Settings}
-use Rattle.encoding.specs.Range.{StoreInRange}
 use Rattle.encoding.specs.declared.operation.Operation.{Operation}
-use Rattle.encoding.specs.declared.operation.TileToMemory.{TileToMemory}
-use Rattle.execute.specs.declared.answer.Executed.{Executed}
-use Rattle.execute.specs.declared.answer.Executed.the-variants.{Done}
+use Rattle.execution.specs.declared.answer.Executed.{Executed}
 use Rattle.execute.specs.declared.check.Buffers.{Buffers}
 use Rattle.execute.specs.declared.check.Buffers.the-variants.{Valid, BadSettings, BadLengths}
-use Rattle.execute.specs.Answer.{executedNumber, executedAddress}
-use Rattle.execute.specs.Effect.{State, stored, effectOf}
-use Rattle.execute.specs.Execute.{validLengths, strideOf, storeAnswer, operationAnswer, ifDone, executeOf}
+use Rattle.execution.specs.Answer.{executedNumber, executedAddress}
+use Rattle.execution.specs.Effect.{State, effectOf}
+use Rattle.execution.specs.Execute.{validLengths, strideOf, operationAnswer, ifDone, executeOf}
 
 -- execution: the answer with its number and address, and every byte of the three buffers, whichever answer
 pub record Executes (s : Settings) (w : ℕ) (x p : List ℕ) (t : State) (r : Executed) (t′ : State) : Type 0 where
@@ -41,25 +37,6 @@ checkOf s lx lz lp lza lm =
 pub record Ready (s : Settings) (x p : List ℕ) (t : State) : Type 0 where
   pub settings : validSettings (s .«vector_bytes») (s .level) ≡ true
   pub lengths : validLengths s (length x) (length (t .z)) (length p) (length (t .za)) (length (t .memory)) ≡ true
-
--- n bytes from address start on are in the memory of lm bytes at a, with no address past 2^64
-abbrev pub insideAt : ℕ → ℕ → ℕ → ℕ → Bool
-insideAt a lm start n = leb a start && leb (start - a + n) lm
-
--- what a store relies on: the check found nothing, and the operation was decoded
-pub record StoreReady (s : Settings) (lx lp lza lm : ℕ) (o : TileToMemory) : Type 0 where
-  pub vector : isVectorLength (s .«vector_bytes») ≡ true
-  pub x : lx ≡ xNumbers
-  pub p : lp ≡ pBytes (s .«vector_bytes»)
-  pub za : lza ≡ zaBytes (s .«vector_bytes»)
-  pub memory : s .«memory_address» + lm ≤ 2 ^ 64
-  pub range : StoreInRange o
-
--- a store: the answer, and every byte of memory, whichever answer
-pub record Stores (s : Settings) (x p za memory : List ℕ) (o : TileToMemory) (r : Executed) (memory′ : List ℕ) : Type 0 where
-  pub answer : r ≡ storeAnswer s x p (length memory) o
-  pub done : r ≡ Done → memory′ ≡ stored (strideOf s) (s .«vector_bytes») x p o (s .«memory_address») za memory
-  pub refused : (r ≡ Done → ⊥) → memory′ ≡ memory
 
 -- what moves rely on: a vector length, and the lengths that it fixes
 pub record Sized (B lx lz lp lza : ℕ) : Type 0 where

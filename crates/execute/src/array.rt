@@ -7,7 +7,7 @@ ghost use Rattle.settings.specs.Settings.{isVectorLength};
 ghost use Rattle.encoding.specs.Flat.{registersOf};
 ghost use Rattle.encoding.specs.Range.{ArrayInRange};
 ghost use Rattle.tiles.specs.Group.{groupOf};
-ghost use Rattle.execute.specs.Effect.{takenFromArray, zeroedInArray};
+ghost use Rattle.execution.specs.Effect.{takenFromArray, zeroedInArray};
 ghost use Rattle.execute.specs.Promise.{Sized};
 use encoding::ArrayToVectors;
 use encoding::RegisterCount;
@@ -28,7 +28,7 @@ fn group_of(registers: RegisterCount, index: u64, offset: u8, vector_bytes: usiz
     ensures { λ r. ⌜ r ≡ groupOf «vector_bytes» (registersOf registers) ((index % 2 ^ 32 + offset) % («vector_bytes» / registersOf registers)) ⌝ }
 {
     let stride = group_stride(vector_bytes, registers);
-    let first = crate::select::selected(index, offset, stride);
+    let first = store::selected(index, offset, stride);
     moves::vector_group(first, stride)
 }
 

@@ -1,17 +1,13 @@
 // One call: the checks in order, then one operation (document 01 §5 and §6).
 ghost use Rattle.execute.specs.Promise.{Executes};
 use check::Buffers;
+use execution::Executed;
 use settings::Settings;
 
-mod answer;
 mod array;
 mod check;
 mod perform;
-mod select;
-mod store;
 mod tile;
-
-pub use answer::Executed;
 
 // Executes one instruction word on buffers that the host lends: X of 32 numbers, Z of 32 registers, P
 // of 16, ZA, and memory from the settings' address on. Every word, setting and buffer length has an

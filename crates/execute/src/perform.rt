@@ -2,12 +2,11 @@
 // then the operation.
 ghost use Rattle.encoding.specs.Range.{InRange};
 ghost use Rattle.execute.specs.Promise.{Executes, Performs, Ready};
-use crate::answer::Executed;
 use crate::array;
-use crate::store;
 use crate::tile;
 use encoding::Decoded;
 use encoding::Operation;
+use execution::Executed;
 use settings::Settings;
 
 // Decodes a word and performs its operation.

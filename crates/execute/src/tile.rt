@@ -2,11 +2,11 @@
 ghost use mathlib.Core.Path.{_≡_};
 ghost use lib.ListN.{length};
 ghost use Rattle.encoding.specs.Range.{ToTileInRange, FromTileInRange};
-ghost use Rattle.execute.specs.Effect.{movedToTile, takenFromTile, zeroedInTile};
+ghost use Rattle.execution.specs.Effect.{movedToTile, takenFromTile, zeroedInTile};
 ghost use Rattle.execute.specs.Promise.{Sized};
-use crate::select::selected;
 use encoding::TileToVector;
 use encoding::VectorToTile;
+use store::selected;
 
 // Copies the active elements of a vector register to a slice of a tile.
 pub(crate) fn move_to_tile(
@@ -22,8 +22,8 @@ pub(crate) fn move_to_tile(
 {
     let size = operation.size;
     let direction = operation.direction;
-    let n = moves::elements_in(vector_bytes, size);
-    moves::move_to_slice(
+    let n = slices::elements_in(vector_bytes, size);
+    slices::move_to_slice(
         za,
         z,
         p,
@@ -53,8 +53,8 @@ pub(crate) fn take_from_tile(
 {
     let size = operation.size;
     let direction = operation.direction;
-    let n = moves::elements_in(vector_bytes, size);
-    moves::take_slice(
+    let n = slices::elements_in(vector_bytes, size);
+    slices::take_slice(
         za,
         z,
         vector_bytes,

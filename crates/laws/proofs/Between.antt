@@ -6,7 +6,7 @@ use mathlib.Core.List.{List, _∷_}
 use Rattle.encoding.specs.declared.operation.Operation.{Operation}
 use Rattle.encoding.specs.declared.operation.Operation.the-variants.{MovaToTile, MovazFromTile, MovaFromArray, MovazFromArray, St1}
 use Rattle.encoding.specs.declared.operation.Decoded.the-variants.{Done}
-use Rattle.execute.specs.Effect.{State}
+use Rattle.execution.specs.Effect.{State}
 use Rattle.laws.specs.Calls.{Call, zaAfter, run}
 use Rattle.laws.specs.Between.{Beside, BesideKeepsZa, BesideMayRun}
 use Rattle.laws.proofs.CallLaws.{DoesCall, CallEnds, moves-by, rests, call-ends, run-append}

@@ -9,10 +9,10 @@ use lib.ListN.{length}
 use Rattle.encoding.specs.declared.operation.Operation.{Operation}
 use Rattle.encoding.specs.declared.operation.Operation.the-variants.{MovaToTile, MovazFromTile, MovaFromArray, MovazFromArray, St1}
 use Rattle.tiles.proofs.ScatterLaws.{length-scatter}
-use Rattle.execute.specs.declared.answer.Executed.{Executed}
-use Rattle.execute.specs.declared.answer.Executed.the-variants.{Done, BadSettings, BadLengths, Undecodable, StreamingOff, ZaOff, StackMisaligned, OutsideMemory}
-use Rattle.execute.specs.Effect.{State, movedToTile, zeroedInTile, zeroedInArray, effectOf}
-use Rattle.execute.proofs.ExecuteLaws.{Refusal, Does, Ends, does, stays, ends}
+use Rattle.execution.specs.declared.answer.Executed.{Executed}
+use Rattle.execution.specs.declared.answer.Executed.the-variants.{Done, BadSettings, BadLengths, Undecodable, StreamingOff, ZaOff, StackMisaligned, OutsideMemory}
+use Rattle.execution.specs.Effect.{State, movedToTile, zeroedInTile, zeroedInArray, effectOf}
+use Rattle.execution.proofs.ExecuteLaws.{Refusal, Does, Ends, does, stays, ends}
 use Rattle.laws.specs.Calls.{Call, stateWith, outcome, zaAfter, run, Move, decodedOf, moveOf, decodedMove, ifDoneMove, moved, withMove, moves}
 
 -- ---- one call

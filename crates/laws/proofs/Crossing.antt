@@ -19,7 +19,7 @@ use Rattle.tiles.specs.Predicate.{bit}
 use Rattle.tiles.specs.Tile.{flip, byteAt, byteOf, Outside}
 use Rattle.tiles.proofs.TileLaws.{byteAt-within, slices-cross}
 use Rattle.tiles.proofs.SliceLaws.{active-element, written-at, taken-at}
-use Rattle.execute.proofs.LengthLaws.{whole}
+use Rattle.tiles.proofs.LengthLaws.{whole}
 use Rattle.laws.specs.Calls.{Call, outcome, run, Move, into, out, moved, vectorOf, predicateOf}
 use Rattle.laws.specs.Crossing.{EachOnce, slicesOf, Once, Crossed, CrossingLaw}
 use Rattle.laws.proofs.CallLaws.{run-append, run-long, quiet, Parts, parts, cons-same}

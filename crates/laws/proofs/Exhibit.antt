@@ -28,12 +28,12 @@ use Rattle.encoding.proofs.Claims.{decode-inverts-encode}
 use Rattle.encoder.specs.Steps.{offsetCount}
 use Rattle.encoder.proofs.EncoderLaws.{to-tile-encodes, from-tile-encodes}
 use Rattle.tiles.specs.Tile.{flip}
-use Rattle.execute.specs.declared.answer.Executed.{Executed}
-use Rattle.execute.specs.declared.answer.Executed.the-variants.{Done}
-use Rattle.execute.specs.Effect.{selected}
-use Rattle.execute.specs.Execute.{validLengths, operationAnswer}
-use Rattle.execute.proofs.LengthLaws.{whole}
-use Rattle.execute.proofs.ExecuteLaws.{Refusal, done-when}
+use Rattle.execution.specs.declared.answer.Executed.{Executed}
+use Rattle.execution.specs.declared.answer.Executed.the-variants.{Done}
+use Rattle.execution.specs.Effect.{selected}
+use Rattle.execution.specs.Execute.{validLengths, operationAnswer}
+use Rattle.tiles.proofs.LengthLaws.{whole}
+use Rattle.execution.proofs.ExecuteLaws.{Refusal, done-when}
 use Rattle.laws.specs.Calls.{Call, stateWith, outcome, zaAfter, run, Move, into, out, decodedOf, moveAt, decodedMove, ifDoneMove, moved, withMove, moves}
 use Rattle.laws.specs.Crossing.{times, slicesOf}
 use Rattle.laws.specs.Exhibit.{inward, outward, wordFor, callOn, crossingCalls, Ready, Below, ListsExist, downFrom, OrdersExist, RefusedMayStand}

@@ -18,8 +18,8 @@ use Rattle.encoding.proofs.RangeLaws.{decoded-in-range}
 use Rattle.tiles.specs.Scatter.{scatter, all, zeros, from}
 use Rattle.tiles.specs.Predicate.{active}
 use Rattle.tiles.specs.Tile.{sliceAt}
-use Rattle.execute.specs.Effect.{State, movedToTile, takenFromTile, zeroedInTile}
-use Rattle.execute.proofs.LengthLaws.{whole}
+use Rattle.execution.specs.Effect.{State, movedToTile, takenFromTile, zeroedInTile}
+use Rattle.tiles.proofs.LengthLaws.{whole}
 use Rattle.laws.specs.Calls.{Call, outcome, zaAfter, Move, into, out, other, moveOf, moved, vectorOf, predicateOf}
 use Rattle.laws.proofs.CallLaws.{DoesCall, has-move}
 

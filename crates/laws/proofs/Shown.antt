@@ -13,12 +13,12 @@ use Rattle.encoding.specs.declared.operation.ElementSize.the-variants.{Bits32}
 use Rattle.encoding.specs.declared.operation.Direction.{Direction}
 use Rattle.encoding.specs.declared.operation.Direction.the-variants.{Horizontal}
 use Rattle.tiles.specs.Predicate.{active}
-use Rattle.execute.specs.declared.answer.Executed.{Executed}
-use Rattle.execute.specs.Answer.{executedNumber}
-use Rattle.execute.specs.Store.{least}
-use Rattle.execute.specs.Execute.{storeAnswer, answerOf, executeOf}
-use Rattle.execute.specs.Examples.{zaAt}
-use Rattle.execute.proofs.ExecuteLaws.{Refusal}
+use Rattle.execution.specs.declared.answer.Executed.{Executed}
+use Rattle.execution.specs.Answer.{executedNumber}
+use Rattle.execution.specs.Store.{least}
+use Rattle.execution.specs.Execute.{storeAnswer, answerOf, executeOf}
+use Rattle.execution.specs.Examples.{zaAt}
+use Rattle.execution.proofs.ExecuteLaws.{Refusal}
 use Rattle.laws.specs.Calls.{Call, run}
 use Rattle.laws.specs.Crossing.{times, Crosses}
 use Rattle.laws.specs.Exhibit.{Ready, shownRows, shownColumns, shownSettings, shownZ, shownP, refusedCalls, numbersAt, RefusalsShown, shownIn, shownOut, ListShown}

@@ -12,10 +12,10 @@ use Rattle.encoding.specs.declared.operation.Operation.{Operation}
 use Rattle.encoding.specs.declared.operation.Operation.the-variants.{MovaToTile, MovazFromTile, MovaFromArray, MovazFromArray, St1}
 use Rattle.encoding.specs.declared.operation.Decoded.{Decoded}
 use Rattle.encoding.specs.declared.operation.Decoded.the-variants as decoded
-use Rattle.execute.specs.declared.answer.Executed.{Executed}
-use Rattle.execute.specs.declared.answer.Executed.the-variants.{Done, BadSettings, BadLengths, Undecodable, StreamingOff, ZaOff, StackMisaligned, OutsideMemory}
-use Rattle.execute.specs.Effect.{State, sliceIn, sliceOut}
-use Rattle.execute.specs.Execute.{Outcome, strideOf, executeOf}
+use Rattle.execution.specs.declared.answer.Executed.{Executed}
+use Rattle.execution.specs.declared.answer.Executed.the-variants.{Done, BadSettings, BadLengths, Undecodable, StreamingOff, ZaOff, StackMisaligned, OutsideMemory}
+use Rattle.execution.specs.Effect.{State, sliceIn, sliceOut}
+use Rattle.execution.specs.Execute.{Outcome, strideOf, executeOf}
 
 -- what a call has of its own: all but ZA, of any content and length
 pub record Call : Type 0 where

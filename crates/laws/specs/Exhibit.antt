@@ -6,7 +6,7 @@ use Prim.Native.Nat.{ℕ, zero, suc, _+_, _*_, _/_, _^_, _<_, _≤_}
 use mathlib.Core.Path.{_≡_}
 use mathlib.Core.Bool.{Bool, true, false}
 use mathlib.Core.List.{List, [], _∷_, _++_, map}
-use lib.ListN.{length, getD, set, replicate}
+use lib.ListN.{length, set, replicate}
 use Rattle.settings.specs.Settings.{isVectorLength, maxLevel}
 use Rattle.settings.specs.declared.Settings.{Settings}
 use Rattle.encoding.specs.Flat.{bytesOf}
@@ -19,9 +19,9 @@ use Rattle.encoding.specs.declared.operation.Direction.the-variants.{Horizontal
 use Rattle.encoding.specs.declared.operation.Operation.{Operation}
 use Rattle.encoding.specs.declared.operation.Operation.the-variants.{MovaToTile, MovazFromTile}
 use Rattle.tiles.specs.Tile.{flip}
-use Rattle.execute.specs.declared.answer.Executed.the-variants.{Done}
-use Rattle.execute.specs.Answer.{executedNumber}
-use Rattle.execute.specs.Examples.{bytesFrom, settingsAt, zaAt}
+use Rattle.execution.specs.declared.answer.Executed.the-variants.{Done}
+use Rattle.execution.specs.Answer.{executedNumber}
+use Rattle.execution.specs.Examples.{bytesFrom, settingsAt, zaAt}
 use Rattle.laws.specs.Calls.{Call, outcome, run}
 use Rattle.laws.specs.Crossing.{EachOnce, slicesOf, Crosses}
 

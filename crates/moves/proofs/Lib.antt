@@ -1,6 +1,5 @@
 pub mod BlockLaws
-mod PartLaws
+pub mod PartLaws
 mod MaskLaws
 pub mod ColumnLaws
-mod SliceLaws
 mod GroupLaws

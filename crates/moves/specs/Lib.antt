@@ -1,3 +1,2 @@
 pub mod Mask
 pub mod Column
-pub mod Slice

@@ -102,7 +102,7 @@ pub fn take_column(
 }
 
 // Copies n elements of za that stand step apart to dst, from index at_dst on.
-pub(crate) fn gather_column(
+pub fn gather_column(
     dst: &mut [u8],
     at_dst: usize,
     za: &[u8],

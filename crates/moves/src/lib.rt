@@ -5,8 +5,8 @@ mod copy;
 mod element;
 mod group;
 mod merge;
-mod slice;
 
+pub use column::gather_column;
 pub use column::merge_column;
 pub use column::take_column;
 pub use copy::clear_bytes;
@@ -15,7 +15,3 @@ pub use group::clear_group;
 pub use group::copy_group;
 pub use group::vector_group;
 pub use merge::merge_vector;
-pub use slice::elements_in;
-pub use slice::merge_from_slice;
-pub use slice::move_to_slice;
-pub use slice::take_slice;

@@ -12,9 +12,9 @@ use Rattle.settings.specs.Settings.{isVectorLength, validSettings, lengthsOf}
 use Rattle.settings.specs.declared.Settings.{Settings}
 use Rattle.encoding.specs.Answer.{Answer, encodedAnswer, encodedWord}
 use Rattle.encoding.specs.Codec.{decodeAnswer, encodeFlatOf}
-use Rattle.execute.specs.Answer.{executedNumber, executedAddress}
-use Rattle.execute.specs.Effect.{State}
-use Rattle.execute.specs.Execute.{executeOf}
+use Rattle.execution.specs.Answer.{executedNumber, executedAddress}
+use Rattle.execution.specs.Effect.{State}
+use Rattle.execution.specs.Execute.{executeOf}
 
 -- one execution: the number and the address of its answer, and every byte of the three buffers, whichever answer
 pub record Exports (s : Settings) (w : ℕ) (x p : List ℕ) (t : State) (r a : ℕ) (t′ : State) : Type 0 where

@@ -14,8 +14,8 @@ use Rattle.encoding.proofs.RangeLaws.{decoded-in-range}
 use Rattle.encoding.specs.declared.operation.Decoded.{Decoded}
 use Rattle.encoding.specs.declared.operation.Decoded.the-variants.{Done, BadLevel}
 use Rattle.encoding.specs.declared.operation.Decoded.the-variants as decoded
-use Rattle.execute.specs.declared.answer.Executed.the-variants.{Undecodable}
-use Rattle.execute.specs.Execute.{decodedAnswer}
+use Rattle.execution.specs.declared.answer.Executed.the-variants.{Undecodable}
+use Rattle.execution.specs.Execute.{decodedAnswer}
 use Rattle.execute.proofs.PerformLaws.{undecodable, streaming-off, za-off, performed}
 use borrow.Author.Needs.{needs}
 use Rattle.execute.proofs.perform.perform.Statement.{statement}

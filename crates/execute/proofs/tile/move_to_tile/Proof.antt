@@ -1,8 +1,9 @@
 -- `execute::move_to_tile` meets its contract: the slice is the one that the index register and the offset name.
 -- Assumes nothing.
 use native.Mathlib.Omega.{arith}
-use Rattle.execute.proofs.LengthLaws.{whole}
-use Rattle.execute.proofs.MoveLaws.{register-within, placed, moved-to-tile}
+use Rattle.tiles.proofs.LengthLaws.{whole}
+use Rattle.slices.proofs.SliceLaws.{placed}
+use Rattle.execute.proofs.MoveLaws.{register-within, moved-to-tile}
 use mathlib.Core.Path.{_∙_}
 use Prim.Native.Nat.{_/_}
 use borrow.Author.Needs.{needs}

@@ -1,8 +1,9 @@
 -- `execute::take_from_tile` meets its contract: the slice is the one that the index register and the offset name.
 -- Assumes nothing.
 use native.Mathlib.Omega.{arith}
-use Rattle.execute.proofs.LengthLaws.{whole}
-use Rattle.execute.proofs.MoveLaws.{register-within, placed, taken-from-tile, zeroed-in-tile}
+use Rattle.tiles.proofs.LengthLaws.{whole}
+use Rattle.slices.proofs.SliceLaws.{placed}
+use Rattle.execute.proofs.MoveLaws.{register-within, taken-from-tile, zeroed-in-tile}
 use mathlib.Core.Path.{_∙_}
 use mathlib.Core.List.{[]}
 use borrow.Author.Needs.{needs}

@@ -1,0 +1,211 @@
+-- The worked examples of 01 §7 marked *, in full, as one claim: what the words mean, where the bytes lie, and what execution
+-- gives; with 12, and parts beyond 01's sentences that are marked so. To believe: what each part says (the first two parts stand where words and places do), and the buffers.
+-- Assumes nothing.
+use Prim.Native.Nat.{ℕ, zero, suc, _+_, _*_, _-_, _/_, _%_, _^_}
+use mathlib.Core.Path.{_≡_}
+use mathlib.Core.Bool.{Bool, true, false, cond, not}
+use mathlib.Core.List.{List, [], _∷_, _++_, map}
+use lib.Dec.{eqb}
+use lib.ListN.{getD, set, take, drop, replicate}
+use Rattle.settings.specs.declared.Settings.{Settings}
+use Rattle.encoding.specs.Flat.{bytesOf}
+use Rattle.encoding.specs.Examples.{WordsHold}
+use Rattle.encoding.specs.declared.operation.ElementSize.the-variants.{Bits8, Bits32, Bits64, Bits128}
+use Rattle.encoding.specs.declared.operation.Direction.the-variants.{Horizontal}
+use Rattle.tiles.specs.Scatter.{pick}
+use Rattle.tiles.specs.Examples.{PlacesHold}
+use Rattle.execution.specs.Answer.{executedNumber, executedAddress}
+use Rattle.execution.specs.Effect.{State, selected, sliceIn}
+use Rattle.execution.specs.Execute.{Outcome, executeOf}
+
+-- ---- buffers
+
+-- bytes in turn from two lists, the first byte from the first list if the test holds
+abbrev pub alternate : Bool → List ℕ → List ℕ → List ℕ
+alternate b [] ys = []
+alternate b (x ∷ xs) [] = []
+alternate b (x ∷ xs) (y ∷ ys) = pick b x y ∷ alternate (not b) xs ys
+
+-- n bytes from index i on, none of them zero, neighbours different; each buffer starts elsewhere
+abbrev pub bytesFrom : ℕ → ℕ → List ℕ
+bytesFrom i zero = []
+bytesFrom i (suc n) = (i * 7 % 251 + 1) ∷ bytesFrom (suc i) n
+
+abbrev pub vectorIn : List ℕ → ℕ → ℕ → List ℕ
+vectorIn l B v = take B (drop (v * B) l)
+
+abbrev pub settingsAt : ℕ → ℕ → Settings
+settingsAt B address = record { «vector_bytes» = B; level = 3; streaming = true; za = true; «memory_address» = address }
+
+abbrev pub zAt : ℕ → List ℕ
+zAt B = bytesFrom 11 (32 * B)
+
+abbrev pub zaAt : ℕ → List ℕ
+zaAt B = bytesFrom 97 (B * B)
+
+abbrev pub memoryOf : ℕ → List ℕ
+memoryOf n = bytesFrom 200 n
+
+abbrev pub stateAt : ℕ → ℕ → State
+stateAt B n = record { z = zAt B; za = zaAt B; memory = memoryOf n }
+
+-- X with one register set
+abbrev pub xWith : ℕ → ℕ → List ℕ
+xWith r v = set (bytesFrom 50 32) r v
+
+-- P with every bit set, and with register 0 given, all others set
+abbrev pub ones : ℕ → List ℕ
+ones B = replicate (16 * (B / 8)) 255
+
+abbrev pub predicate0 : ℕ → List ℕ → List ℕ
+predicate0 B r = r ++ replicate (15 * (B / 8)) 255
+
+-- what a host sees of an execution: the number and the address of its answer, and the buffers
+pub record Seen : Type 0 where
+  pub number : ℕ
+  pub address : ℕ
+  pub state : State
+
+abbrev pub seen : Outcome → Seen
+seen o = record { number = executedNumber (o .answer); address = executedAddress (o .answer); state = o .state }
+
+-- a word executed at a vector length, with memory of n bytes at address 0
+abbrev pub executed : ℕ → ℕ → ℕ → List ℕ → List ℕ → Seen
+executed B w n x p = seen (executeOf (settingsAt B 0) w x p (stateAt B n))
+
+abbrev pub executedAt : ℕ → ℕ → Seen
+executedAt level w =
+    seen (executeOf (record { «vector_bytes» = 16; level = level; streaming = true; za = true; «memory_address» = 0 }) w (bytesFrom 50 32) (ones 16) (stateAt 16 8))
+
+-- C0000000 at B 16 under a level and the two switches
+abbrev pub executedUnder : ℕ → Bool → Bool → Seen
+executedUnder level streaming za =
+    seen (executeOf (record { «vector_bytes» = 16; level = level; streaming = streaming; za = za; «memory_address» = 0 }) 0xC0000000 (bytesFrom 50 32) (ones 16) (stateAt 16 8))
+
+-- E022A823 at B 32 with n bytes of memory at 1000 hex
+abbrev pub storedAt : ℕ → Seen
+storedAt n =
+    seen (executeOf (settingsAt 32 0x1000) 0xE022A823 (set (set (xWith 13 20) 1 0xFF0) 2 0x18) (replicate 8 255 ++ (replicate 4 0x55 ++ replicate 52 255)) (stateAt 32 n))
+
+-- a buffer of n vectors of B bytes, given by vector
+abbrev pub vectors : ℕ → ℕ → (ℕ → List ℕ) → List ℕ
+vectors B zero f = []
+vectors B (suc n) f = vectors B n f ++ f n
+
+-- 0, with these Z, ZA and memory; refused by a number with an address, nothing changed
+abbrev pub doneWith : List ℕ → List ℕ → List ℕ → Seen
+doneWith z za memory = record { number = 0; address = 0; state = record { z = z; za = za; memory = memory } }
+
+abbrev pub refusedWith : ℕ → ℕ → ℕ → ℕ → Seen
+refusedWith B n number address = record { number = number; address = address; state = stateAt B n }
+
+-- ---- what execution gives
+
+-- C0000000: byte tile, row (W12) mod B, P0, Z0
+pub record Example1 : Type 0 where
+  pub row : (S B : ℕ) (x p : List ℕ) → sliceIn S B x p (record { size = Bits8; direction = Horizontal; rs = 12; pg = 0; zn = 0; zad = 0; off = 0 }) ≡ getD x 12 0 % 2 ^ 32 % B
+  -- B 16, W12 = 35, so row 3, under alternating bits
+  pub moves : executed 16 0xC0000000 8 (xWith 12 35) (predicate0 16 (0x55 ∷ 0x55 ∷ [])) ≡
+      doneWith (zAt 16) (vectors 16 16 (λ v. cond (eqb v 3) (alternate true (vectorIn (zAt 16) 16 0) (vectorIn (zaAt 16) 16 3)) (vectorIn (zaAt 16) 16 v))) (memoryOf 8)
+
+-- C080ACA9: m = 4, vertical, W13, P3, Z5, tile 2, offset 1; B 32, W13 = 7: slice 0, element e is bytes 0 to 3 of vector 4e + 2
+pub record Example2 : Type 0 where
+  pub slice : selected (xWith 13 7) 13 1 (32 / bytesOf Bits32) ≡ 0
+  pub moves : executed 32 0xC080ACA9 8 (xWith 13 7) (ones 32) ≡
+      doneWith (zAt 32) (vectors 32 32 (λ v. cond (eqb (v % 4) 2) (take 4 (drop (4 * (v / 4)) (vectorIn (zAt 32) 32 5)) ++ drop 4 (vectorIn (zaAt 32) 32 v)) (vectorIn (zaAt 32) 32 v))) (memoryOf 8)
+  -- beyond 01's sentence: P3 has bit 4 of each byte clear, so elements 1, 3, 5 and 7 keep what they have
+  pub partial : executed 32 0xC080ACA9 8 (xWith 13 7) (replicate 12 255 ++ (replicate 4 0xEF ++ replicate 48 255)) ≡
+      doneWith (zAt 32) (vectors 32 32 (λ v. cond (eqb (v % 8) 2) (take 4 (drop (4 * (v / 4)) (vectorIn (zAt 32) 32 5)) ++ drop 4 (vectorIn (zaAt 32) 32 v)) (vectorIn (zaAt 32) 32 v))) (memoryOf 8)
+
+-- C0000010 and C0410000: answer 3 at every level
+pub record Example3 : Type 0 where
+  pub first : (map (λ l. executedAt l 0xC0000010) (0 ∷ 1 ∷ 2 ∷ 3 ∷ [])) ≡ replicate 4 (refusedWith 16 8 3 0)
+  pub second : (map (λ l. executedAt l 0xC0410000) (0 ∷ 1 ∷ 2 ∷ 3 ∷ [])) ≡ replicate 4 (refusedWith 16 8 3 0)
+
+-- C0C1000F, B 16: n = 1; vector 15 whatever W12 holds
+pub record Example4 : Type 0 where
+  pub slices : 16 / bytesOf Bits128 ≡ 1
+  pub slice : (S : ℕ) (x p : List ℕ) → sliceIn S 16 x p (record { size = Bits128; direction = Horizontal; rs = 12; pg = 0; zn = 0; zad = 15; off = 0 }) ≡ 0
+  pub moves : (w : ℕ) → executed 16 0xC0C1000F 8 (xWith 12 w) (ones 16) ≡ doneWith (zAt 16) (take 240 (zaAt 16) ++ vectorIn (zAt 16) 16 0) (memoryOf 8)
+
+-- C0020200: level 2 gives 3; level 3 decodes, which its word says
+pub record Example5 : Type 0 where
+  pub low : executedAt 2 0xC0020200 ≡ refusedWith 16 8 3 0
+
+-- C0C2E3BF: m = 8, vertical, W15, tile 6, offset 1, Z31; B 64, W15 = 4,294,967,295: slice 0
+pub record Example6 : Type 0 where
+  pub slice : selected (xWith 15 4294967295) 15 1 (64 / bytesOf Bits64) ≡ 0
+  pub moves : executed 64 0xC0C2E3BF 8 (xWith 15 4294967295) (ones 64) ≡
+      doneWith (take (31 * 64) (zAt 64) ++ vectors 8 8 (λ e. take 8 (vectorIn (zaAt 64) 64 (8 * e + 6))))
+      (vectors 64 64 (λ v. cond (eqb (v % 8) 6) (replicate 8 0 ++ drop 8 (vectorIn (zaAt 64) 64 v)) (vectorIn (zaAt 64) 64 v))) (memoryOf 8)
+  -- beyond 01's sentence: W15 = 12, so slice 5, which is bytes 40 to 47 of each vector
+  pub later : executed 64 0xC0C2E3BF 8 (xWith 15 12) (ones 64) ≡
+      doneWith (take (31 * 64) (zAt 64) ++ vectors 8 8 (λ e. take 8 (drop 40 (vectorIn (zaAt 64) 64 (8 * e + 6)))))
+      (vectors 64 64 (λ v. cond (eqb (v % 8) 6) (take 40 (vectorIn (zaAt 64) 64 v) ++ (replicate 8 0 ++ drop 48 (vectorIn (zaAt 64) 64 v))) (vectorIn (zaAt 64) 64 v))) (memoryOf 8)
+
+-- C0064CFC: W10, offset 7; B 16, W10 = 2: vectors 1, 5, 9, 13 to Z28 to Z31
+pub record Example7 : Type 0 where
+  pub first : selected (xWith 10 2) 10 7 (16 / 4) ≡ 1
+  pub moves : executed 16 0xC0064CFC 8 (xWith 10 2) (ones 16) ≡
+      doneWith (take (28 * 16) (zAt 16) ++ (vectorIn (zaAt 16) 16 1 ++ (vectorIn (zaAt 16) 16 5 ++ (vectorIn (zaAt 16) 16 9 ++ vectorIn (zaAt 16) 16 13)))) (zaAt 16) (memoryOf 8)
+  -- beyond 01's sentence: B 32, W10 = 22: vectors 5, 13, 21, 29
+  pub longer : executed 32 0xC0064CFC 8 (xWith 10 22) (ones 32) ≡
+      doneWith (take (28 * 32) (zAt 32) ++ (vectorIn (zaAt 32) 32 5 ++ (vectorIn (zaAt 32) 32 13 ++ (vectorIn (zaAt 32) 32 21 ++ vectorIn (zaAt 32) 32 29)))) (zaAt 32) (memoryOf 8)
+
+-- C0060A6A: W8, offset 3; B 16, W8 = 6: vectors 1 and 9 to Z10 and Z11, both then zero. C0060A01 gives 3
+pub record Example8 : Type 0 where
+  pub moves : executed 16 0xC0060A6A 8 (xWith 8 6) (ones 16) ≡
+      doneWith (take 160 (zAt 16) ++ (vectorIn (zaAt 16) 16 1 ++ (vectorIn (zaAt 16) 16 9 ++ drop 192 (zAt 16))))
+      (take 16 (zaAt 16) ++ (replicate 16 0 ++ (take 112 (drop 32 (zaAt 16)) ++ (replicate 16 0 ++ drop 160 (zaAt 16))))) (memoryOf 8)
+  pub odd : executedAt 3 0xC0060A01 ≡ refusedWith 16 8 3 0
+  -- beyond 01's sentence: B 32, W8 = 24: vectors 11 and 27
+  pub longer : executed 32 0xC0060A6A 8 (xWith 8 24) (ones 32) ≡
+      doneWith (take 320 (zAt 32) ++ (vectorIn (zaAt 32) 32 11 ++ (vectorIn (zaAt 32) 32 27 ++ drop 384 (zAt 32))))
+      (vectors 32 32 (λ v. cond (eqb (v % 16) 11) (replicate 32 0) (vectorIn (zaAt 32) 32 v))) (memoryOf 8)
+
+-- E03F03E0, stack pointer 1008 hex, an active element: 6. None active: done, nothing written
+pub record Example9 : Type 0 where
+  -- whichever of the sixteen elements is the active one
+  pub active : map (λ (e : ℕ). executed 16 0xE03F03E0 8 (xWith 31 0x1008) (predicate0 16 (2 ^ e % 256 ∷ 2 ^ e / 256 ∷ []))) (0 ∷ 1 ∷ 2 ∷ 3 ∷ 4 ∷ 5 ∷ 6 ∷ 7 ∷ 8 ∷ 9 ∷ 10 ∷ 11 ∷ 12 ∷ 13 ∷ 14 ∷ 15 ∷ []) ≡ replicate 16 (refusedWith 16 8 6 0)
+  pub none : executed 16 0xE03F03E0 8 (xWith 31 0x1008) (predicate0 16 (0 ∷ 0 ∷ [])) ≡ doneWith (zAt 16) (zaAt 16) (memoryOf 8)
+  -- beyond 01's sentence: the stack pointer 10 hex is the base and register 31 as an offset is zero, so bytes 16 to 31 are written
+  pub aligned : executed 16 0xE03F03E0 64 (set (xWith 12 5) 31 16) (ones 16) ≡
+      doneWith (zAt 16) (zaAt 16) (take 16 (memoryOf 64) ++ (vectorIn (zaAt 16) 16 5 ++ drop 32 (memoryOf 64)))
+
+-- E0220020, B 16, X1 = 2^64 - 8, X2 = 4, memory address 0, length 64. All active: 7, address FFFFFFFFFFFFFFFC. Elements 4 to 15
+-- only: done, bytes 0 to 11 written; with W12 = 5 these are of row 5
+pub record Example10 : Type 0 where
+  pub all : executed 16 0xE0220020 64 (set (set (xWith 12 5) 1 (2 ^ 64 - 8)) 2 4) (ones 16) ≡ refusedWith 16 64 7 0xFFFFFFFFFFFFFFFC
+  pub some : executed 16 0xE0220020 64 (set (set (xWith 12 5) 1 (2 ^ 64 - 8)) 2 4) (predicate0 16 (0xF0 ∷ 0xFF ∷ [])) ≡
+      doneWith (zAt 16) (zaAt 16) (drop 4 (vectorIn (zaAt 16) 16 5) ++ drop 12 (memoryOf 64))
+  -- beyond 01's sentence: where only a later element faults, nothing is written either
+  pub later : executed 16 0xE0220020 64 (set (set (xWith 12 5) 1 56) 2 0) (ones 16) ≡ refusedWith 16 64 7 64
+
+-- beyond 01's examples: E022A823 is a vertical store, W13, P2, X1, X2, offset 3. B 32, W13 = 20: column 23; memory at 1000 hex, the
+-- first byte at 1008 hex, elements 0, 2, 4, .. active. With 64 bytes of memory it is done, with 28 element 20 is outside
+pub record ExampleStore : Type 0 where
+  pub inside : storedAt 64 ≡
+      doneWith (zAt 32) (zaAt 32) (take 8 (memoryOf 64) ++ (alternate true (vectors 1 32 (λ e. take 1 (drop 23 (vectorIn (zaAt 32) 32 e)))) (drop 8 (memoryOf 64)) ++ drop 40 (memoryOf 64)))
+  pub outside : storedAt 28 ≡ refusedWith 32 28 7 0x101C
+
+-- 12, and the other checks of settings: C0000000 at level 1 with both switches off gives 4, with ZA off 5; level 4 gives 1
+pub record Example12 : Type 0 where
+  pub both : executedUnder 1 false false ≡ refusedWith 16 8 4 0
+  pub za : executedUnder 1 true false ≡ refusedWith 16 8 5 0
+  pub level : executedUnder 4 true true ≡ refusedWith 16 8 1 0
+
+pub record ExamplesHold : Type 0 where
+  pub words : WordsHold
+  pub places : PlacesHold
+  pub example1 : Example1
+  pub example2 : Example2
+  pub example3 : Example3
+  pub example4 : Example4
+  pub example5 : Example5
+  pub example6 : Example6
+  pub example7 : Example7
+  pub example8 : Example8
+  pub example9 : Example9
+  pub example10 : Example10
+  pub exampleStore : ExampleStore
+  pub example12 : Example12

@@ -1,0 +1,6 @@
+-- In reading order.
+pub mod Answer
+pub mod Store
+pub mod Effect
+pub mod Execute
+pub mod Examples

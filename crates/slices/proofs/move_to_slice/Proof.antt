@@ -1,0 +1,85 @@
+-- `slices::move_to_slice` meets its contract: a horizontal slice is a run of bytes, a vertical one a column.
+-- Assumes nothing.
+use borrow.Author.Needs.{needs}
+use mathlib.Core.Path.{_≡_}
+use Prim.Native.Nat.{_*_, _/_}
+use native.Mathlib.Omega.{arith}
+use Rattle.encoding.specs.Flat.{bytesOf}
+use Rattle.moves.proofs.BlockLaws.{scatter-as}
+use Rattle.slices.proofs.SliceLaws.{run-within, column-within, slice-run, slice-column, step-vertical, products-small}
+use Rattle.slices.proofs.move_to_slice.Statement.{statement}
+use Rattle.slices.proofs.move_to_slice.Tie as tie
+
+merge-vector-requires : tie.Need-merge-vector-requires
+merge-vector-requires c κs =
+    let at-start = c .before .before .before in
+    let entry = at-start .before .before .before .before in
+    omega (arith, run-within _ _ _ _ _ _ (entry .pre .0) (entry .args .direction) _ (at-start .slice-start .ensures) (c .before .enum-told .given .1))
+
+mul-step : tie.Need-mul-step
+mul-step c =
+    let entry = c .before .before .before .before .before .before .before in
+    rw (c .bytes .ensures .0) (omega (arith, products-small _ _ _ _ _ _ (entry .pre .0) .2))
+
+merge-column-requires : tie.Need-merge-column-requires
+merge-column-requires c κs =
+    let at-count = c .before in
+    let at-bytes = at-count .before in
+    let at-arm = at-bytes .before in
+    let at-start = at-arm .before .before in
+    let entry = at-start .before .before .before .before in
+    let a = entry .args in
+    let m = bytesOf (a .size) in
+    let count : at-count .elements-in .result * m ≡ a .vector-bytes =
+    rw (at-count .elements-in .ensures) (entry .pre .0 .size) in
+    let step = step-vertical (a .stride) m (a .direction) (at-bytes .bytes .ensures .0) (at-arm .enum-told2 .given .1) in
+    let within =
+    column-within _ _ _ _ _ _ (entry .pre .0) (a .direction) _ _ (at-start .slice-start .ensures) step in
+    (omega arith, λ e w. omega (arith, within e (rw (at-count .elements-in .ensures) at w)))
+
+returns : tie.Need-returns
+returns c =
+    let at-merge-vector = c .before .before in
+    let at-arm = at-merge-vector .before .before in
+    let at-start = at-arm .before .before in
+    let entry = at-start .before .before .before .before in
+    let a = entry .args in
+    let count : a .vector-bytes / 16 * 16 ≡ a .vector-bytes = omega arith in
+    let run =
+    slice-run (a .stride) (bytesOf (a .size)) (a .tile) (a .direction) (a .slice) _ (at-start .slice-start .ensures) (at-arm .enum-told .given .1) in
+    scatter-as _ _ _ _ _ _ _ (at-merge-vector .merge-vector .ensures) run count
+
+returns-2 : tie.Need-returns-2
+returns-2 c =
+    let at-merge-column = c .before .before in
+    let at-count = at-merge-column .before .before in
+    let at-bytes = at-count .before in
+    let at-arm = at-bytes .before in
+    let at-start = at-arm .before .before in
+    let entry = at-start .before .before .before .before in
+    let a = entry .args in
+    let m = bytesOf (a .size) in
+    let count : at-count .elements-in .result * m ≡ a .vector-bytes =
+    rw (at-count .elements-in .ensures) (entry .pre .0 .size) in
+    let step = step-vertical (a .stride) m (a .direction) (at-bytes .bytes .ensures .0) (at-arm .enum-told2 .given .1) in
+    let column =
+    slice-column (a .stride) m (a .tile) (a .direction) (a .slice) _ _ (at-start .slice-start .ensures) step in
+    scatter-as _ _ _ _ _ _ _ (at-merge-column .merge-column .ensures) column count
+
+pub move-to-slice-spec : {M : Type 1} → statement M
+move-to-slice-spec =
+    tie.close
+    (tie.spec
+    (λ c κs. search needs)
+    (λ c. search needs)
+    merge-vector-requires
+    (λ c. search needs)
+    (λ c κs. search needs)
+    (λ c. search needs)
+    mul-step
+    (λ c κs. search needs)
+    merge-column-requires
+    (λ c. search needs)
+    returns
+    (λ c. search needs)
+    returns-2)
