@@ -1,9 +1,9 @@
 -- Every decoded operation is in range: a test of each row's fields, computed over the whole table.
 -- Assumes nothing.
-use Prim.Native.Nat.{ℕ, _+_, _*_, _-_, _^_, _≤_, _<_}
-use mathlib.Core.Path.{_≡_, refl, sym, ap, _∙_, subst}
+use Prim.Native.Nat.{ℕ, _+_, _-_, _^_, _≤_, _<_}
+use mathlib.Core.Path.{_≡_, refl, sym, subst}
 use mathlib.Core.Bool.{Bool, true, false, cond, _&&_}
-use mathlib.Core.List.{List, [], _∷_, List·Memᴰ}
+use mathlib.Core.List.{List, [], _∷_}
 use mathlib.Core.Logic.{_⊎_, inl, inr}
 use native.Mathlib.Nat.{mul-le-mul-left}
 use native.Mathlib.Omega.{arith}
@@ -15,14 +15,13 @@ use Rattle.encoding.specs.Flat.{bytesOf, registersOf, flatOf}
 use Rattle.encoding.specs.Row.{Scale, plain, from, times, numberOf, placeOf, Field, Row}
 use Rattle.encoding.specs.Table.{table}
 use Rattle.encoding.specs.Word.{widthOf, bitsOf, numberAt, numbersIn, fits}
-use Rattle.encoding.specs.Codec.{decodeOf, rowOfWord}
+use Rattle.encoding.specs.Codec.{rowOfWord}
 use Rattle.encoding.specs.Range.{InRange, ArrayInRange, DecodedInRange}
 use Rattle.encoding.specs.declared.operation.ElementSize.{ElementSize}
 use Rattle.encoding.specs.declared.operation.ElementSize.the-variants.{Bits8, Bits16, Bits32, Bits64, Bits128}
 use Rattle.encoding.specs.declared.operation.ArrayToVectors.{ArrayToVectors}
 use Rattle.encoding.specs.declared.operation.Operation.{Operation}
 use Rattle.encoding.specs.declared.operation.Operation.the-variants.{MovaToTile, MovazFromTile, MovaFromArray, MovazFromArray, St1}
-use Rattle.encoding.specs.declared.operation.Decoded.the-variants.{Done}
 use Rattle.encoding.proofs.BoolLaws.{and-parts, by-test}
 use Rattle.encoding.proofs.BitLaws.{bits-below}
 use Rattle.encoding.proofs.TableLaws.{every, every-at, first-found}
