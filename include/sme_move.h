@@ -19,7 +19,7 @@
 #include <stdint.h>
 
 #define SME_MOVE_VERSION_MAJOR 0
-#define SME_MOVE_VERSION_MINOR 1
+#define SME_MOVE_VERSION_MINOR 2
 
 #ifdef __cplusplus
 extern "C" {
@@ -83,7 +83,7 @@ enum sme_field {
     SME_FIELD_BASE_REGISTER,
     /* 0 to 31; 31 reads as zero */
     SME_FIELD_OFFSET_REGISTER,
-    /* 1 for a tile's slice, 4 for a move from the array, 2 for a move and zero from it; 0 for a store */
+    /* 1 for a tile's slice, 2 or 4 for an array kind; 0 for a store */
     SME_FIELD_VECTOR_REGISTERS,
     /* how many fields there are */
     SME_FIELD_COUNT
@@ -94,12 +94,14 @@ enum sme_kind {
     SME_KIND_MOVE_TO_TILE = 1,
     /* a slice of a tile to a vector register, the slice then zero */
     SME_KIND_MOVE_AND_ZERO_FROM_TILE = 2,
-    /* vectors of the array to vector registers */
+    /* two or four vectors of the array to as many vector registers */
     SME_KIND_MOVE_FROM_ARRAY = 3,
     /* the same, the vectors of the array then zero */
     SME_KIND_MOVE_AND_ZERO_FROM_ARRAY = 4,
     /* active elements of a slice of a tile to memory */
-    SME_KIND_STORE = 5
+    SME_KIND_STORE = 5,
+    /* active elements of a slice of a tile to a vector register, whose other elements stay */
+    SME_KIND_MOVE_FROM_TILE = 6
 };
 
 /*

@@ -112,7 +112,7 @@ static void expect(machine *own, uint32_t word, uint32_t wanted, uint64_t wanted
     machine_free(own);
 }
 
-/* Each kind once: byte row 3, 4-byte column of tile 1, four and two vectors of the array, a store. */
+/* Each kind of document 01 once: byte row 3, 4-byte column of tile 1, four and two vectors of the array, a store. */
 static void done_tests(uint64_t b)
 {
     machine own = machine_new(b, 0);
@@ -150,6 +150,94 @@ static void done_tests(uint64_t b)
     set_x(&own, 12, 4);
     memcpy(own.wanted_memory + 5, own.za.bytes + 4 * b, b);
     expect(&own, 0xE0220020, SME_DONE, 0);
+}
+
+/* Leaves only the elements active whose numbers are multiples of step; bits that are not looked at stay set. */
+static void set_active(machine *own, size_t predicate, size_t element_bytes, size_t step)
+{
+    size_t b = own->settings.vector_bytes;
+    uint8_t *bits = own->p.bytes + predicate * (b / 8);
+    for (size_t e = 0; e < b / element_bytes; e++) {
+        size_t bit = e * element_bytes;
+        if (e % step != 0) {
+            bits[bit / 8] = (uint8_t)(bits[bit / 8] & ~(1u << bit % 8));
+        }
+    }
+}
+
+/*
+ * Moves from a tile, with some elements active: every third of byte row 6, every second of column 3 of 4-byte tile 2,
+ * the first of row 0 of 16-byte tile 15, and none of a byte row. ZA stays.
+ */
+static void from_tile_tests(uint64_t b)
+{
+    machine own = machine_new(b, 0);
+    set_x(&own, 14, b - 5);
+    set_active(&own, 5, 1, 3);
+    for (size_t e = 0; e < b; e += 3) {
+        own.wanted_z[9 * b + e] = own.za.bytes[6 * b + e];
+    }
+    expect(&own, 0xC0025569, SME_DONE, 0);
+
+    own = machine_new(b, 0);
+    own.settings.level = 1;
+    set_x(&own, 13, b / 4 + 2);
+    set_active(&own, 3, 4, 2);
+    for (size_t e = 0; e < b / 4; e += 2) {
+        memcpy(own.wanted_z + 5 * b + 4 * e, own.za.bytes + (4 * e + 2) * b + 3 * 4, 4);
+    }
+    expect(&own, 0xC082AD25, SME_DONE, 0);
+
+    own = machine_new(b, 0);
+    set_x(&own, 12, b / 16);
+    set_active(&own, 1, 16, 16);
+    memcpy(own.wanted_z + 2 * b, own.za.bytes + 15 * b, 16);
+    expect(&own, 0xC0C305E2, SME_DONE, 0);
+
+    own = machine_new(b, 0);
+    memset(own.p.bytes, 0, b / 8);
+    expect(&own, 0xC0020000, SME_DONE, 0);
+}
+
+/* The array words that document 01 has not: two vectors that stay, and four that are then zero. W + offset is 2^32 + 6. */
+static void array_tests(uint64_t b)
+{
+    machine own = machine_new(b, 0);
+    own.settings.level = 2;
+    set_x(&own, 9, UINT32_MAX);
+    for (size_t v = 0; v < 2; v++) {
+        memcpy(own.wanted_z + (8 + v) * b, own.za.bytes + (6 + v * (b / 2)) * b, b);
+    }
+    expect(&own, 0xC00628E8, SME_DONE, 0);
+
+    own = machine_new(b, 0);
+    set_x(&own, 9, UINT32_MAX);
+    for (size_t v = 0; v < 4; v++) {
+        size_t vector = 6 % (b / 4) + v * (b / 4);
+        memcpy(own.wanted_z + (8 + v) * b, own.za.bytes + vector * b, b);
+        memset(own.wanted_za + vector * b, 0, b);
+    }
+    expect(&own, 0xC0062EE8, SME_DONE, 0);
+}
+
+/* Answers 3 to 5 to the words that document 01 has not: one below their level, and with a switch off. */
+static void added_refused_tests(uint64_t b)
+{
+    static const struct {
+        uint32_t word;
+        uint64_t level;
+    } added[] = {{0xC0025569, 1}, {0xC0C305E2, 1}, {0xC00628E8, 2}, {0xC0062EE8, 3}};
+    for (size_t i = 0; i < sizeof added / sizeof added[0]; i++) {
+        machine own = machine_new(b, 8);
+        own.settings.level = added[i].level - 1;
+        expect(&own, added[i].word, SME_UNDECODABLE, 0);
+        own = machine_new(b, 8);
+        own.settings.streaming = own.settings.za_on = false;
+        expect(&own, added[i].word, SME_STREAMING_OFF, 0);
+        own = machine_new(b, 8);
+        own.settings.za_on = false;
+        expect(&own, added[i].word, SME_ZA_OFF, 0);
+    }
 }
 
 /* Answers 1 and 3 to 7. */
@@ -222,7 +310,10 @@ void execute_tests(void)
 {
     for (uint64_t b = SME_MIN_VECTOR_BYTES; b <= SME_MAX_VECTOR_BYTES; b *= 2) {
         done_tests(b);
+        from_tile_tests(b);
+        array_tests(b);
         refused_tests(b);
+        added_refused_tests(b);
         length_tests(b);
     }
 }

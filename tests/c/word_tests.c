@@ -1,4 +1,4 @@
-/* sme_decode and sme_encode, by words of the worked examples of document 01. */
+/* sme_decode and sme_encode, by words of document 01's worked examples and of the rows that request 1 added. */
 #include "check.h"
 #include "guarded.h"
 #include "sme_move.h"
@@ -22,6 +22,23 @@ static const known known_words[] = {
     {0xC0060A6A, 3, {SME_KIND_MOVE_AND_ZERO_FROM_ARRAY, 0, 0, 0, 3, 8, 0, 10, 0, 0, 2}},
     {0xE0220020, 1, {SME_KIND_STORE, 1, 0, 0, 0, 12, 0, 0, 1, 2, 0}},
     {0xE03F03E0, 1, {SME_KIND_STORE, 1, 0, 0, 0, 12, 0, 0, 31, 31, 0}},
+    {0xC0020000, 1, {SME_KIND_MOVE_FROM_TILE, 1, 0, 0, 0, 12, 0, 0, 0, 0, 1}},
+    {0xC0025569, 1, {SME_KIND_MOVE_FROM_TILE, 1, 0, 0, 11, 14, 5, 9, 0, 0, 1}},
+    {0xC04299BE, 1, {SME_KIND_MOVE_FROM_TILE, 2, 1, 1, 5, 12, 6, 30, 0, 0, 1}},
+    {0xC082AD25, 1, {SME_KIND_MOVE_FROM_TILE, 4, 1, 2, 1, 13, 3, 5, 0, 0, 1}},
+    {0xC0C2FDBF, 1, {SME_KIND_MOVE_FROM_TILE, 8, 1, 6, 1, 15, 7, 31, 0, 0, 1}},
+    {0xC0C305E2, 1, {SME_KIND_MOVE_FROM_TILE, 16, 0, 15, 0, 12, 1, 2, 0, 0, 1}},
+    {0xC00668FE, 2, {SME_KIND_MOVE_FROM_ARRAY, 0, 0, 0, 7, 11, 0, 30, 0, 0, 2}},
+    {0xC0064EFC, 3, {SME_KIND_MOVE_AND_ZERO_FROM_ARRAY, 0, 0, 0, 7, 10, 0, 28, 0, 0, 4}},
+};
+
+/* The places among them of a byte, a 4-byte and a 16-byte move from a tile, and of the added array words. */
+enum { FROM_BYTE_TILE = 9, FROM_TILE_4 = 12, FROM_TILE_16 = 14, TWO_OF_ARRAY = 15, ZERO_FOUR_OF_ARRAY = 16 };
+
+/* Words that decode at no level: changed fixed bits, a move and zero with a predicate, first registers of no group. */
+static const uint32_t no_words[] = {
+    0,          0xC0000010, 0xC0410000, 0xC0030000, 0xC0430000, 0xC0830000, 0xC0020600, 0xC0C31E00,
+    0xC0060801, 0xC0060A01, 0xC0060C02, 0xC0060E01, 0xC0060E02, 0xC0061800, 0xC0068E00,
 };
 
 static void decode_one(uint32_t word, uint64_t level, uint32_t wanted, const uint8_t *wanted_fields)
@@ -75,20 +92,68 @@ static void known_one(const known *one)
     encode_one(one->fields, SME_DONE, one->word);
 }
 
+/* Each number of a move from a tile just outside its range, and those that it has not. */
+static void from_tile_ranges(void)
+{
+    refuse_one(FROM_BYTE_TILE, SME_FIELD_OFFSET, 16);
+    refuse_one(FROM_BYTE_TILE, SME_FIELD_TILE, 1);
+    refuse_one(FROM_TILE_4, SME_FIELD_OFFSET, 4);
+    refuse_one(FROM_TILE_4, SME_FIELD_TILE, 4);
+    refuse_one(FROM_TILE_16, SME_FIELD_OFFSET, 1);
+    refuse_one(FROM_TILE_16, SME_FIELD_TILE, 16);
+    for (size_t i = FROM_BYTE_TILE; i <= FROM_TILE_16; i++) {
+        refuse_one(i, SME_FIELD_INDEX_REGISTER, 11);
+        refuse_one(i, SME_FIELD_INDEX_REGISTER, 16);
+        refuse_one(i, SME_FIELD_PREDICATE, 8);
+        refuse_one(i, SME_FIELD_FIRST_VECTOR_REGISTER, 32);
+        refuse_one(i, SME_FIELD_BASE_REGISTER, 1);
+        refuse_one(i, SME_FIELD_OFFSET_REGISTER, 1);
+        refuse_one(i, SME_FIELD_VECTOR_REGISTERS, 0);
+        refuse_one(i, SME_FIELD_VECTOR_REGISTERS, 2);
+    }
+}
+
+/* The same of the added array words: their first registers are multiples of 2 and of 4. */
+static void array_ranges(void)
+{
+    for (uint8_t first = 0; first < 40; first++) {
+        if (first % 2 != 0 || first > 30) {
+            refuse_one(TWO_OF_ARRAY, SME_FIELD_FIRST_VECTOR_REGISTER, first);
+        }
+        if (first % 4 != 0 || first > 28) {
+            refuse_one(ZERO_FOUR_OF_ARRAY, SME_FIELD_FIRST_VECTOR_REGISTER, first);
+        }
+    }
+    for (size_t i = TWO_OF_ARRAY; i <= ZERO_FOUR_OF_ARRAY; i++) {
+        refuse_one(i, SME_FIELD_OFFSET, 8);
+        refuse_one(i, SME_FIELD_INDEX_REGISTER, 7);
+        refuse_one(i, SME_FIELD_INDEX_REGISTER, 12);
+        refuse_one(i, SME_FIELD_ELEMENT_BYTES, 1);
+        refuse_one(i, SME_FIELD_DIRECTION, 1);
+        refuse_one(i, SME_FIELD_TILE, 1);
+        refuse_one(i, SME_FIELD_PREDICATE, 1);
+        refuse_one(i, SME_FIELD_BASE_REGISTER, 1);
+        refuse_one(i, SME_FIELD_OFFSET_REGISTER, 1);
+        refuse_one(i, SME_FIELD_VECTOR_REGISTERS, 1);
+    }
+    refuse_one(TWO_OF_ARRAY, SME_FIELD_VECTOR_REGISTERS, 4);
+}
+
 void word_tests(void)
 {
     for (size_t i = 0; i < sizeof known_words / sizeof known_words[0]; i++) {
         known_one(&known_words[i]);
         refuse_one(i, SME_FIELD_KIND, 0);
+        refuse_one(i, SME_FIELD_KIND, 7);
         refuse_one(i, SME_FIELD_KIND, 8);
         refuse_one(i, SME_FIELD_DIRECTION, 2);
         refuse_one(i, SME_FIELD_ELEMENT_BYTES, 3);
         refuse_one(i, SME_FIELD_VECTOR_REGISTERS, 3);
     }
     for (uint64_t level = 0; level <= 3; level++) {
-        decode_one(0xC0000010, level, SME_UNDECODABLE, NULL);
-        decode_one(0xC0410000, level, SME_UNDECODABLE, NULL);
-        decode_one(0, level, SME_UNDECODABLE, NULL);
+        for (size_t i = 0; i < sizeof no_words / sizeof no_words[0]; i++) {
+            decode_one(no_words[i], level, SME_UNDECODABLE, NULL);
+        }
     }
     /* a byte move with offset 16, a byte tile 1, four registers from 2; a field that the kind has not */
     refuse_one(0, SME_FIELD_OFFSET, 16);
@@ -97,4 +162,6 @@ void word_tests(void)
     refuse_one(0, SME_FIELD_BASE_REGISTER, 1);
     refuse_one(5, SME_FIELD_PREDICATE, 1);
     refuse_one(7, SME_FIELD_FIRST_VECTOR_REGISTER, 1);
+    from_tile_ranges();
+    array_ranges();
 }

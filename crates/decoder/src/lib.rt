@@ -1,7 +1,7 @@
 // Decoding: the operation that a word stands for, found by its fixed bits from the top down
 // (document 01 §4). Each test is written on the very bits that the table fixes.
 ghost use mathlib.Core.Path.{_≡_};
-ghost use Prim.Native.Nat.{_+_, _≤_, _<_};
+ghost use Prim.Native.Nat.{_+_, _≤_};
 ghost use Rattle.settings.specs.Settings.{maxLevel};
 ghost use Rattle.encoding.specs.Word.{bitsAt};
 ghost use Rattle.encoding.specs.Codec.{Decodes};
@@ -12,6 +12,7 @@ use encoding::Decoded;
 use encoding::Direction;
 use encoding::ElementSize;
 use encoding::Operation;
+use encoding::PredicatedTileToVector;
 use encoding::RegisterCount;
 use encoding::TileToMemory;
 use encoding::TileToVector;
@@ -74,24 +75,36 @@ fn decode_to_tile(size: ElementSize, word: u32, level: u64) -> Decoded
     }))
 }
 
+// A move from a tile: bit 9 tells the move and zero from the move under a predicate, which is in bits 12:10.
 fn decode_from_tile(size: ElementSize, word: u32, level: u64) -> Decoded
     requires { ⌜ (level ≤ maxLevel) × (bitsAt 16 16 word ≡ 0xC002 + sizeBits size) ⌝ }
     ensures { λ r. ⌜ Decodes word level r ⌝ }
 {
-    if level < 3 {
+    if level < 1 {
         return Decoded::Undecodable;
     }
-    if word / 512 % 16 != 1 {
-        return Decoded::Undecodable;
-    }
-    Decoded::Done(Operation::MovazFromTile(TileToVector {
+    let whole = TileToVector {
         size: size,
         direction: Direction::of_number(word / 32768 % 2),
         rs: (12 + word / 8192 % 4) as u8,
         zan: tile_in(size, word / 32),
         off: offset_in(size, word / 32),
         zd: (word % 32) as u8,
-    }))
+    };
+    if word / 512 % 2 == 0 {
+        let pg = (word / 1024 % 8) as u8;
+        return Decoded::Done(Operation::MovaFromTile(PredicatedTileToVector {
+            pg: pg,
+            whole: whole,
+        }));
+    }
+    if level < 3 {
+        return Decoded::Undecodable;
+    }
+    if word / 1024 % 8 != 0 {
+        return Decoded::Undecodable;
+    }
+    Decoded::Done(Operation::MovazFromTile(whole))
 }
 
 // A word whose bits 31:16 are C006: the array moves, by bits 12:8.
@@ -103,15 +116,17 @@ fn decode_array(word: u32, level: u64) -> Decoded
         return Decoded::Undecodable;
     }
     match word / 256 % 32 {
-        0b01100 => decode_group(false, RegisterCount::Four, word, level),
+        0b01000 => decode_group(false, RegisterCount::Two, word, level),
         0b01010 => decode_group(true, RegisterCount::Two, word, level),
+        0b01100 => decode_group(false, RegisterCount::Four, word, level),
+        0b01110 => decode_group(true, RegisterCount::Four, word, level),
         _ => Decoded::Undecodable,
     }
 }
 
 // An array move whose bits 31:15 and 12:8 are right.
 fn decode_group(zeroes: bool, registers: RegisterCount, word: u32, level: u64) -> Decoded
-    requires { ⌜ (level ≤ maxLevel) × (bitsAt 16 16 word ≡ 0xC006) × (bitsAt 15 1 word ≡ 0) × (bitsAt 8 5 word ≡ arrayBits zeroes registers) × (0 < arrayBits zeroes registers) ⌝ }
+    requires { ⌜ (level ≤ maxLevel) × (bitsAt 16 16 word ≡ 0xC006) × (bitsAt 15 1 word ≡ 0) × (bitsAt 8 5 word ≡ arrayBits zeroes registers) ⌝ }
     ensures { λ r. ⌜ Decodes word level r ⌝ }
 {
     if level < array_level(zeroes) {

@@ -8,7 +8,7 @@ use native.Mathlib.Omega.{arith}
 use Rattle.encoding.specs.Flat.{directionNumber, registersOf, bytesOf}
 use Rattle.encoding.specs.Table.{table}
 use Rattle.encoding.specs.Codec.{Encodes, rowOfNumbers}
-use Rattle.encoding.specs.Steps.{sizeBits, arrayMove, arrayBits}
+use Rattle.encoding.specs.Steps.{sizeBits, fromTileMove, fromTileBits, arrayMove, arrayBits}
 use Rattle.encoder.specs.Steps.{offsetCount}
 use Rattle.encoding.specs.declared.operation.ElementSize.{ElementSize}
 use Rattle.encoding.specs.declared.operation.ElementSize.the-variants.{Bits8, Bits16, Bits32, Bits64, Bits128}
@@ -16,7 +16,7 @@ use Rattle.encoding.specs.declared.operation.Direction.{Direction}
 use Rattle.encoding.specs.declared.operation.Direction.the-variants.{Horizontal, Vertical}
 use Rattle.encoding.specs.declared.operation.RegisterCount.{RegisterCount}
 use Rattle.encoding.specs.declared.operation.RegisterCount.the-variants.{Two, Four}
-use Rattle.encoding.specs.declared.operation.Operation.the-variants.{MovaToTile, MovazFromTile, St1}
+use Rattle.encoding.specs.declared.operation.Operation.the-variants.{MovaToTile, St1}
 use Rattle.encoding.specs.declared.operation.Encoded.the-variants.{Word, OutOfRange}
 use Rattle.encoding.proofs.CodecLaws.{encodes-as, refuses-as, refuses-none}
 
@@ -47,48 +47,59 @@ module _ (d : Direction) (rs pg zn zad off : ℕ) where
   to-tile-refuses Bits64 h = refuses-as _ _ refl (λ k. h (omega arith))
   to-tile-refuses Bits128 h = refuses-as _ _ refl (λ k. h (omega arith))
 
-module _ (d : Direction) (rs zan off zd : ℕ) where
+-- with zeroing there is no predicate
+module _ (d : Direction) (pg rs zan off zd : ℕ) where
   abbrev pub FromTileRange : ElementSize → Type 0
-  FromTileRange m = (12 ≤ rs) × (rs ≤ 15) × (zan < bytesOf m) × (off < offsetCount m) × (zd ≤ 31)
+  FromTileRange m = (pg ≤ 7) × (12 ≤ rs) × (rs ≤ 15) × (zan < bytesOf m) × (off < offsetCount m) × (zd ≤ 31)
 
-  abbrev pub fromTileWord : ElementSize → ℕ
-  fromTileWord m = 0xC0020200 + sizeBits m * 65536 + directionNumber d * 32768 + (rs - 12) * 8192 + (zan * offsetCount m + off) * 32 + zd
+  abbrev pub fromTileWord : Bool → ElementSize → ℕ
+  fromTileWord z m = 0xC0020000 + sizeBits m * 65536 + directionNumber d * 32768 + (rs - 12) * 8192 + fromTileBits z pg * 512 + (zan * offsetCount m + off) * 32 + zd
 
-  pub from-tile-encodes : (m : ElementSize) (v : ℕ) → FromTileRange m → v ≡ fromTileWord m → Encodes (MovazFromTile (record { size = m; direction = d; rs = rs; zan = zan; off = off; zd = zd })) (Word v)
+  pub from-tile-encodes : (z : Bool) (m : ElementSize) (v : ℕ) → FromTileRange m → v ≡ fromTileWord z m → Encodes (fromTileMove z pg (record { size = m; direction = d; rs = rs; zan = zan; off = off; zd = zd })) (Word v)
   unfolding table rowOfNumbers
-  from-tile-encodes Bits8 v h e = encodes-as _ _ v refl (omega (arith, direction-below d)) (omega arith)
-  from-tile-encodes Bits16 v h e = encodes-as _ _ v refl (omega (arith, direction-below d)) (omega arith)
-  from-tile-encodes Bits32 v h e = encodes-as _ _ v refl (omega (arith, direction-below d)) (omega arith)
-  from-tile-encodes Bits64 v h e = encodes-as _ _ v refl (omega (arith, direction-below d)) (omega arith)
-  from-tile-encodes Bits128 v h e = encodes-as _ _ v refl (omega (arith, direction-below d)) (omega arith)
+  from-tile-encodes true Bits8 v h e = encodes-as _ _ v refl (omega (arith, direction-below d)) (omega arith)
+  from-tile-encodes true Bits16 v h e = encodes-as _ _ v refl (omega (arith, direction-below d)) (omega arith)
+  from-tile-encodes true Bits32 v h e = encodes-as _ _ v refl (omega (arith, direction-below d)) (omega arith)
+  from-tile-encodes true Bits64 v h e = encodes-as _ _ v refl (omega (arith, direction-below d)) (omega arith)
+  from-tile-encodes true Bits128 v h e = encodes-as _ _ v refl (omega (arith, direction-below d)) (omega arith)
+  from-tile-encodes false Bits8 v h e = encodes-as _ _ v refl (omega (arith, direction-below d)) (omega arith)
+  from-tile-encodes false Bits16 v h e = encodes-as _ _ v refl (omega (arith, direction-below d)) (omega arith)
+  from-tile-encodes false Bits32 v h e = encodes-as _ _ v refl (omega (arith, direction-below d)) (omega arith)
+  from-tile-encodes false Bits64 v h e = encodes-as _ _ v refl (omega (arith, direction-below d)) (omega arith)
+  from-tile-encodes false Bits128 v h e = encodes-as _ _ v refl (omega (arith, direction-below d)) (omega arith)
 
-  pub from-tile-refuses : (m : ElementSize) → (FromTileRange m → ⊥) → Encodes (MovazFromTile (record { size = m; direction = d; rs = rs; zan = zan; off = off; zd = zd })) OutOfRange
+  pub from-tile-refuses : (z : Bool) (m : ElementSize) → (z ≡ true → pg ≡ 0) → (FromTileRange m → ⊥) → Encodes (fromTileMove z pg (record { size = m; direction = d; rs = rs; zan = zan; off = off; zd = zd })) OutOfRange
   unfolding table rowOfNumbers
-  from-tile-refuses Bits8 h = refuses-as _ _ refl (λ k. h (omega arith))
-  from-tile-refuses Bits16 h = refuses-as _ _ refl (λ k. h (omega arith))
-  from-tile-refuses Bits32 h = refuses-as _ _ refl (λ k. h (omega arith))
-  from-tile-refuses Bits64 h = refuses-as _ _ refl (λ k. h (omega arith))
-  from-tile-refuses Bits128 h = refuses-as _ _ refl (λ k. h (omega arith))
+  from-tile-refuses true Bits8 q h = refuses-as _ _ refl (λ k. h (omega (arith, q refl)))
+  from-tile-refuses true Bits16 q h = refuses-as _ _ refl (λ k. h (omega (arith, q refl)))
+  from-tile-refuses true Bits32 q h = refuses-as _ _ refl (λ k. h (omega (arith, q refl)))
+  from-tile-refuses true Bits64 q h = refuses-as _ _ refl (λ k. h (omega (arith, q refl)))
+  from-tile-refuses true Bits128 q h = refuses-as _ _ refl (λ k. h (omega (arith, q refl)))
+  from-tile-refuses false Bits8 q h = refuses-as _ _ refl (λ k. h (omega arith))
+  from-tile-refuses false Bits16 q h = refuses-as _ _ refl (λ k. h (omega arith))
+  from-tile-refuses false Bits32 q h = refuses-as _ _ refl (λ k. h (omega arith))
+  from-tile-refuses false Bits64 q h = refuses-as _ _ refl (λ k. h (omega arith))
+  from-tile-refuses false Bits128 q h = refuses-as _ _ refl (λ k. h (omega arith))
 
 module _ (rv off zd : ℕ) where
-  abbrev pub ArrayRange : Bool → RegisterCount → Type 0
-  ArrayRange z n = (0 < arrayBits z n) × (8 ≤ rv) × (rv ≤ 11) × (off ≤ 7) × (zd ≤ 31) × (zd % registersOf n ≡ 0)
+  abbrev pub ArrayRange : RegisterCount → Type 0
+  ArrayRange n = (8 ≤ rv) × (rv ≤ 11) × (off ≤ 7) × (zd ≤ 31) × (zd % registersOf n ≡ 0)
 
   abbrev pub arrayWord : Bool → RegisterCount → ℕ
   arrayWord z n = 0xC0060000 + (rv - 8) * 8192 + arrayBits z n * 256 + off * 32 + zd
 
-  pub array-encodes : (z : Bool) (n : RegisterCount) (v : ℕ) → ArrayRange z n → v ≡ arrayWord z n → Encodes (arrayMove z (record { registers = n; rv = rv; off = off; zd = zd })) (Word v)
+  pub array-encodes : (z : Bool) (n : RegisterCount) (v : ℕ) → ArrayRange n → v ≡ arrayWord z n → Encodes (arrayMove z (record { registers = n; rv = rv; off = off; zd = zd })) (Word v)
   unfolding table rowOfNumbers
   array-encodes true Two v h e = encodes-as _ _ v refl (omega arith) (omega arith)
-  array-encodes true Four v h e = absurd (omega arith)
-  array-encodes false Two v h e = absurd (omega arith)
+  array-encodes true Four v h e = encodes-as _ _ v refl (omega arith) (omega arith)
+  array-encodes false Two v h e = encodes-as _ _ v refl (omega arith) (omega arith)
   array-encodes false Four v h e = encodes-as _ _ v refl (omega arith) (omega arith)
 
-  pub array-refuses : (z : Bool) (n : RegisterCount) → (ArrayRange z n → ⊥) → Encodes (arrayMove z (record { registers = n; rv = rv; off = off; zd = zd })) OutOfRange
+  pub array-refuses : (z : Bool) (n : RegisterCount) → (ArrayRange n → ⊥) → Encodes (arrayMove z (record { registers = n; rv = rv; off = off; zd = zd })) OutOfRange
   unfolding table rowOfNumbers
   array-refuses true Two h = refuses-as _ _ refl (λ k. h (omega arith))
-  array-refuses true Four h = refuses-none _ refl
-  array-refuses false Two h = refuses-none _ refl
+  array-refuses true Four h = refuses-as _ _ refl (λ k. h (omega arith))
+  array-refuses false Two h = refuses-as _ _ refl (λ k. h (omega arith))
   array-refuses false Four h = refuses-as _ _ refl (λ k. h (omega arith))
 
 module _ (d : Direction) (rs pg rn rm zat imm : ℕ) where

@@ -1,10 +1,11 @@
 // Encoding: the word that stands for an operation (document 01 §4), or a refusal where a field is
 // outside its range or the table has no row for the form.
 ghost use mathlib.Core.Path.{_≡_};
+ghost use mathlib.Core.Bool.{true};
 ghost use Prim.Native.Nat.{_+_, _*_, _<_};
 ghost use Rattle.encoding.specs.Codec.{Encodes};
 ghost use Rattle.encoding.specs.Flat.{bytesOf};
-ghost use Rattle.encoding.specs.Steps.{sizeBits, arrayMove, arrayBits};
+ghost use Rattle.encoding.specs.Steps.{sizeBits, fromTileMove, fromTileBits, arrayMove, arrayBits};
 ghost use Rattle.encoder.specs.Steps.{offsetCount};
 use encoding::Direction;
 use encoding::ElementSize;
@@ -25,7 +26,7 @@ pub fn encode(operation: Operation) -> Encoded
         Operation::MovazFromTile(o) => {
             let size = o.size;
             let direction = o.direction;
-            encode_from_tile(size, direction, o.rs, o.zan, o.off, o.zd)
+            encode_from_tile(true, 0, size, direction, o.rs, o.zan, o.off, o.zd)
         }
         Operation::MovaFromArray(o) => {
             let registers = o.registers;
@@ -39,6 +40,12 @@ pub fn encode(operation: Operation) -> Encoded
             let size = o.size;
             let direction = o.direction;
             encode_store(size, direction, o.rs, o.pg, o.rn, o.rm, o.zat, o.imm)
+        }
+        Operation::MovaFromTile(o) => {
+            let w = o.whole;
+            let size = w.size;
+            let direction = w.direction;
+            encode_from_tile(false, o.pg, size, direction, w.rs, w.zan, w.off, w.zd)
         }
     }
 }
@@ -83,7 +90,10 @@ fn encode_to_tile(
     )
 }
 
+// A move from a tile, with zeroing, and then no predicate, or under a predicate.
 fn encode_from_tile(
+    zeroes: bool,
+    pg: u8,
     size: ElementSize,
     direction: Direction,
     rs: u8,
@@ -91,8 +101,12 @@ fn encode_from_tile(
     off: u8,
     zd: u8,
 ) -> Encoded
-    ensures { λ r. ⌜ Encodes (Operation.MovazFromTile (record { size = size; direction = direction; rs = rs; zan = zan; off = off; zd = zd })) r ⌝ }
+    requires { ⌜ (zeroes ≡ true → pg ≡ 0) ⌝ }
+    ensures { λ r. ⌜ Encodes (fromTileMove zeroes pg (record { size = size; direction = direction; rs = rs; zan = zan; off = off; zd = zd })) r ⌝ }
 {
+    if 7 < pg {
+        return Encoded::OutOfRange;
+    }
     if rs < 12 {
         return Encoded::OutOfRange;
     }
@@ -109,32 +123,37 @@ fn encode_from_tile(
         return Encoded::OutOfRange;
     }
     Encoded::Word(
-        0xC0020200
+        0xC0020000
             + size_bits(size) * 65536
             + direction.number() as u32 * 32768
             + (rs - 12) as u32 * 8192
+            + from_tile_bits(zeroes, pg) * 512
             + shared_bits(size, zan, off) * 32
             + zd as u32,
     )
 }
 
-// Bits 12:8 of an array move, 0 where the table has no row.
+// Bits 12:9 of a move from a tile: the predicate with bit 9 clear, or bit 9 alone.
+fn from_tile_bits(zeroes: bool, pg: u8) -> u32
+    requires { ⌜ pg < 8 ⌝ }
+    ensures { λ r. ⌜ (r ≡ fromTileBits zeroes pg) × (r < 16) ⌝ }
+{
+    if zeroes { 1 } else { pg as u32 * 2 }
+}
+
+// Bits 12:8 of an array move.
 fn array_bits(zeroes: bool, registers: RegisterCount) -> u32
     ensures { λ r. ⌜ (r ≡ arrayBits zeroes registers) × (r < 32) ⌝ }
 {
     match registers {
-        RegisterCount::Two => if zeroes { 0b01010 } else { 0 },
-        RegisterCount::Four => if zeroes { 0 } else { 0b01100 },
+        RegisterCount::Two => if zeroes { 0b01010 } else { 0b01000 },
+        RegisterCount::Four => if zeroes { 0b01110 } else { 0b01100 },
     }
 }
 
 fn encode_array(zeroes: bool, registers: RegisterCount, rv: u8, off: u8, zd: u8) -> Encoded
     ensures { λ r. ⌜ Encodes (arrayMove zeroes (record { registers = registers; rv = rv; off = off; zd = zd })) r ⌝ }
 {
-    let bits = array_bits(zeroes, registers);
-    if bits == 0 {
-        return Encoded::OutOfRange;
-    }
     if rv < 8 {
         return Encoded::OutOfRange;
     }
@@ -150,7 +169,13 @@ fn encode_array(zeroes: bool, registers: RegisterCount, rv: u8, off: u8, zd: u8)
     if zd % registers.number() != 0 {
         return Encoded::OutOfRange;
     }
-    Encoded::Word(0xC0060000 + (rv - 8) as u32 * 8192 + bits * 256 + off as u32 * 32 + zd as u32)
+    Encoded::Word(
+        0xC0060000
+            + (rv - 8) as u32 * 8192
+            + array_bits(zeroes, registers) * 256
+            + off as u32 * 32
+            + zd as u32,
+    )
 }
 
 // A store: so far the table has a row for bytes only.

@@ -1,8 +1,8 @@
 -- Each theorem of specs/Claims.antt and specs/Examples.antt, proved by citing its law.
 -- Assumes nothing.
 use mathlib.Core.Path.{refl, sym}
-use Rattle.encoding.specs.Claims.{EncodeInvertsDecode, DecodeInvertsEncode, HigherLevelDecodesSame, rowAt, FitsOneRow, FittingDecodes, UnflattenInvertsFlatten, FlattenInvertsUnflatten, EncodeFlatInvertsDecode, DecodeInvertsEncodeFlat}
-use Rattle.encoding.specs.Examples.{examples, flatExamples, outOfRangeExamples, WordsHold}
+use Rattle.encoding.specs.Claims.{EncodeInvertsDecode, DecodeInvertsEncode, HigherLevelDecodesSame, DecodesAsBefore, rowAt, FitsOneRow, FittingDecodes, UnflattenInvertsFlatten, FlattenInvertsUnflatten, EncodeFlatInvertsDecode, DecodeInvertsEncodeFlat}
+use Rattle.encoding.specs.Examples.{examples, addedExamples, flatExamples, outOfRangeExamples, WordsHold}
 use Rattle.encoding.specs.Flat.{flatOf, unflattenOf}
 use Rattle.encoding.specs.Table.{table}
 use Rattle.encoding.specs.Codec.{decodeOf, decodeAnswer, encodeOf, rowOfWord, rowOfNumbers}
@@ -18,6 +18,9 @@ decode-inverts-encode = laws.decode-inverts-encode
 
 pub higher-level-decodes-same : HigherLevelDecodesSame
 higher-level-decodes-same = laws.higher-level
+
+pub decodes-as-before : DecodesAsBefore
+decodes-as-before = laws.decodes-as-before
 
 pub fits-one-row : FitsOneRow
 fits-one-row w i j = fits-one w i j _
@@ -39,5 +42,5 @@ decode-inverts-encode-flat = laws.decode-inverts-encode-flat
 
 -- computed
 pub words-hold : WordsHold
-unfolding examples flatExamples outOfRangeExamples unflattenOf decodeOf decodeAnswer encodeOf rowOfWord rowOfNumbers table
-words-hold = record { decoded = refl; flattened = refl; outOfRange = refl }
+unfolding examples addedExamples flatExamples outOfRangeExamples unflattenOf decodeOf decodeAnswer encodeOf rowOfWord rowOfNumbers table
+words-hold = record { rows = (refl, refl); decoded = refl; before = refl; added = refl; flattened = refl; outOfRange = refl }

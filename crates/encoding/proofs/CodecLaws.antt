@@ -9,14 +9,15 @@ use mathlib.Core.Logic.{_⊎_, inl, inr}
 use native.Mathlib.Omega.{arith}
 use lib.Dec.{ltb, leb}
 use borrow.Author.Tests.{leb-true, le-leb, lt-leb, ltb-false, le-ltb, lt-ltb}
+use Rattle.settings.specs.Answer.{done, badSettings, undecodable}
 use Rattle.settings.specs.Settings.{maxLevel}
 use Rattle.encoding.specs.Answer.{encodedAnswer}
 use Rattle.encoding.specs.Flat.{flatOf, operationOf, unflattenOf}
 use Rattle.encoding.specs.Row.{Row}
-use Rattle.encoding.specs.Table.{table}
+use Rattle.encoding.specs.Table.{baseTable, addedMoves, table}
 use Rattle.encoding.specs.Word.{fits, numbersIn, isOf, encodable, wordOf}
-use Rattle.encoding.specs.Codec.{first, rowOfWord, rowOfNumbers, decodeOf, decodeAnswer, Decodes, encodeOf, Encodes, encodeFlatOf}
-use Rattle.encoding.specs.Claims.{DecodesTo}
+use Rattle.encoding.specs.Codec.{first, rowIn, rowOfWord, rowOfNumbers, decodeBy, decodeOf, decodeAnswerBy, decodeAnswer, Decodes, encodeOf, Encodes, encodeFlatOf}
+use Rattle.encoding.specs.Claims.{DecodesTo, DecodesAsBefore}
 use Rattle.encoding.specs.declared.operation.Operation.{Operation}
 use Rattle.encoding.specs.declared.operation.Decoded.the-variants.{Done, BadLevel, Undecodable}
 use Rattle.encoding.specs.declared.operation.Encoded.{Encoded}
@@ -28,7 +29,7 @@ use Rattle.encoding.proofs.FlatLaws.{operation-again, flat-length, name
 use Rattle.encoding.proofs.NumbersLaws.{row-numbers}
 use Rattle.encoding.proofs.RowLaws.{fits-facts, facts-fit}
 use Rattle.encoding.proofs.WordLaws.{Writes, encodable-writes, writes-encodable, encodable-facts, facts-encodable, is-facts, numbers-of, numbers-encodable, word-fits, word-below, word-again, numbers-again}
-use Rattle.encoding.proofs.TableLaws.{first-found, row-whole, fitting-found, listed-found, Known, Knows, implies, implies-fits, excluded, excluded-level}
+use Rattle.encoding.proofs.TableLaws.{first-found, first-before, row-whole, fitting-found, listed-found, Known, Knows, implies, implies-fits, excluded, excluded-level}
 
 -- ---- decodeOf: the three answers, from what is known of the word's bits
 
@@ -182,6 +183,21 @@ higher-level w level higher o l h e =
   where
     above : (r : Row) → r .level ≤ level → r .level ≤ higher
     above r k = omega arith
+
+-- words that the rows of 01 decode decode by them
+pub decodes-as-before : DecodesAsBefore
+unfolding decodeOf decodeAnswer rowOfWord table
+decodes-as-before w some-level level e = go (rowIn baseTable w) refl
+  where
+    go : (f : Option Row) → rowIn baseTable w ≡ f → (decodeOf w level ≡ decodeBy (rowIn baseTable w) w level) × (decodeAnswer w level ≡ decodeAnswerBy (rowIn baseTable w) w level)
+    go none f = absurd (refused (by-test (ltb maxLevel some-level)) (rw f at e))
+      where
+        refused : (ltb maxLevel some-level ≡ true) ⊎ (ltb maxLevel some-level ≡ false) → decodeAnswerBy none w some-level .number ≡ done → ⊥
+        refused (inl t) q = let z : badSettings ≡ done = rw t at q in omega arith
+        refused (inr t) q = let z : undecodable ≡ done = rw t at q in omega arith
+    go (some r) f =
+        let g = first-before (λ s. fits s w) baseTable addedMoves r f in
+        (rw (f, g), rw (f, g))
 
 -- a word that fits a row decodes from the row's level on
 pub fitting-decodes : (w level : ℕ) (r : Row) → List·Memᴰ r table → fits r w ≡ true → r .level ≤ level → level ≤ maxLevel → DecodesTo w level (numbersIn r w)

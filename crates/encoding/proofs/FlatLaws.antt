@@ -9,7 +9,7 @@ use native.Mathlib.Omega.{arith}
 use lib.Dec.{eqb}
 use lib.ListN.{length, getD}
 use borrow.Author.Tests.{eqb-true, eq-eqb, ne-eqb}
-use Rattle.encoding.specs.Flat.{movaToTile, movazFromTile, movaFromArray, movazFromArray, bytesOf, directionNumber, registersOf, flatOf, sizeOf, directionOf, registerCountOf, operationOf, same, unflattenOf}
+use Rattle.encoding.specs.Flat.{movaToTile, movazFromTile, movaFromArray, movazFromArray, st1, bytesOf, directionNumber, registersOf, flatOf, sizeOf, directionOf, registerCountOf, tileToVectorOf, operationOf, same, unflattenOf}
 use Rattle.encoding.specs.Answer.{unflattenedAnswer}
 use Rattle.encoding.specs.Codec.{Unflattens}
 use Rattle.encoding.specs.declared.operation.ElementSize.{ElementSize}
@@ -19,7 +19,7 @@ use Rattle.encoding.specs.declared.operation.Direction.the-variants.{Hor
 use Rattle.encoding.specs.declared.operation.RegisterCount.{RegisterCount}
 use Rattle.encoding.specs.declared.operation.RegisterCount.the-variants.{Two, Four}
 use Rattle.encoding.specs.declared.operation.Operation.{Operation}
-use Rattle.encoding.specs.declared.operation.Operation.the-variants.{MovaToTile, MovazFromTile, MovaFromArray, MovazFromArray, St1}
+use Rattle.encoding.specs.declared.operation.Operation.the-variants.{MovaToTile, MovazFromTile, MovaFromArray, MovazFromArray, St1, MovaFromTile}
 use Rattle.encoding.specs.declared.operation.Unflattened.the-variants.{Done, OutOfRange}
 use Rattle.encoding.proofs.BoolLaws.{and-parts, and-both, by-test}
 
@@ -54,6 +54,7 @@ operation-again (MovazFromTile o) = rw (size-again (o .size), direction-again (o
 operation-again (MovaFromArray o) = rw (registers-again (o .registers))
 operation-again (MovazFromArray o) = rw (registers-again (o .registers))
 operation-again (St1 o) = rw (size-again (o .size), direction-again (o .direction))
+operation-again (MovaFromTile o) = rw (size-again (o .whole .size), direction-again (o .whole .direction))
 
 pub flat-length : (o : Operation) → length (flatOf o) ≡ 11
 flat-length (MovaToTile o) = refl
@@ -61,11 +62,12 @@ flat-length (MovazFromTile o) = refl
 flat-length (MovaFromArray o) = refl
 flat-length (MovazFromArray o) = refl
 flat-length (St1 o) = refl
+flat-length (MovaFromTile o) = refl
 
--- numbers of no other kind are read as a store's
-pub store-kind : (ns : List ℕ) → (getD ns 0 0 ≡ movaToTile → ⊥) → (getD ns 0 0 ≡ movazFromTile → ⊥) → (getD ns 0 0 ≡ movaFromArray → ⊥) → (getD ns 0 0 ≡ movazFromArray → ⊥) →
-    St1 (record { size = sizeOf (getD ns 1 0); direction = directionOf (getD ns 2 0); rs = getD ns 5 0; pg = getD ns 6 0; rn = getD ns 8 0; rm = getD ns 9 0; zat = getD ns 3 0; imm = getD ns 4 0 }) ≡ operationOf ns
-store-kind ns a b c d = rw (ne-eqb _ movaToTile a, ne-eqb _ movazFromTile b, ne-eqb _ movaFromArray c, ne-eqb _ movazFromArray d)
+-- numbers of no other kind are read as those of the last
+pub last-kind : (ns : List ℕ) → (getD ns 0 0 ≡ movaToTile → ⊥) → (getD ns 0 0 ≡ movazFromTile → ⊥) → (getD ns 0 0 ≡ movaFromArray → ⊥) → (getD ns 0 0 ≡ movazFromArray → ⊥) → (getD ns 0 0 ≡ st1 → ⊥) →
+    MovaFromTile (record { pg = getD ns 6 0; whole = tileToVectorOf ns }) ≡ operationOf ns
+last-kind ns a b c d e = rw (ne-eqb _ movaToTile a, ne-eqb _ movazFromTile b, ne-eqb _ movaFromArray c, ne-eqb _ movazFromArray d, ne-eqb _ st1 e)
 
 -- ---- same
 

@@ -9,7 +9,7 @@ use mathlib.Core.Logic.{_⊎_, inl, inr, ⊎-elim}
 use native.Mathlib.Omega.{arith}
 use lib.Dec.{eqb}
 use borrow.Author.Tests.{eqb-true, not-true}
-use Rattle.encoding.specs.Flat.{movaToTile, movazFromTile, movaFromArray, movazFromArray, st1, bytesOf, registersOf, directionNumber, flatOf, sizeOf, directionOf, registerCountOf, operationOf}
+use Rattle.encoding.specs.Flat.{movaToTile, movazFromTile, movaFromArray, movazFromArray, st1, movaFromTile, bytesOf, registersOf, directionNumber, flatOf, sizeOf, directionOf, registerCountOf, operationOf}
 use Rattle.encoding.specs.Row.{Scale, plain, from, times, numberOf, placeOf, Field, Row}
 use Rattle.encoding.specs.Table.{table}
 use Rattle.encoding.specs.Word.{widthOf, bitsOf, numberAt, numbersIn, hasField}
@@ -60,8 +60,8 @@ abbrev countedRow : ℕ → List ℕ → Row → Bool
 countedRow k ps r =
     (eqb (r .kind) k && eqb (r .elementBytes) 0) && eqb (registersOf (registerCountOf (r .registers))) (r .registers) && lacks r ps
 
-abbrev toTile : Row → Bool
-toTile = sizedRow movaToTile (8 ∷ 9 ∷ []) 1
+abbrev predicated : ℕ → Row → Bool
+predicated k = sizedRow k (8 ∷ 9 ∷ []) 1
 
 abbrev fromTile : Row → Bool
 fromTile = sizedRow movazFromTile (6 ∷ 8 ∷ 9 ∷ []) 1
@@ -127,11 +127,14 @@ module _ (r : Row) (w : ℕ) where
   Again : Type 0
   Again = flatOf (operationOf (numbersIn r w)) ≡ numbersIn r w
 
-  to-tile-again : toTile r ≡ true → Again
+  predicated-again : (k : ℕ) → (k ≡ movaToTile) ⊎ (k ≡ movaFromTile) → predicated k r ≡ true → Again
   unfolding Again
-  to-tile-again e =
-      let h = sized-facts movaToTile (8 ∷ 9 ∷ []) 1 r e in
-      rw (h .kind, h .registers, h .size, direction (h .bit), zero-at 8 (h .blank .0), zero-at 9 (h .blank .1 .0))
+  predicated-again k c e =
+      let h = sized-facts k (8 ∷ 9 ∷ []) 1 r e in
+      ⊎-elim
+      (λ q. let a : r .kind ≡ movaToTile = h .kind ∙ q in rw (a, h .registers, h .size, direction (h .bit), zero-at 8 (h .blank .0), zero-at 9 (h .blank .1 .0)))
+      (λ q. let a : r .kind ≡ movaFromTile = h .kind ∙ q in rw (a, h .registers, h .size, direction (h .bit), zero-at 8 (h .blank .0), zero-at 9 (h .blank .1 .0)))
+      c
 
   from-tile-again : fromTile r ≡ true → Again
   unfolding Again
@@ -158,7 +161,7 @@ module _ (r : Row) (w : ℕ) where
 -- ---- every row
 
 abbrev proper : Row → Bool
-proper r = toTile r || (fromTile r || (fromArray movaFromArray r || (fromArray movazFromArray r || store r)))
+proper r = predicated movaToTile r || (predicated movaFromTile r || (fromTile r || (fromArray movaFromArray r || (fromArray movazFromArray r || store r))))
 
 proper-table : every proper table ≡ true
 unfolding table
@@ -167,11 +170,13 @@ proper-table = refl
 pub row-numbers : (r : Row) (w : ℕ) → List·Memᴰ r table → flatOf (operationOf (numbersIn r w)) ≡ numbersIn r w
 unfolding Again
 row-numbers r w i =
-    ⊎-elim (to-tile-again r w)
+    ⊎-elim (predicated-again r w movaToTile (inl refl))
+    (λ e. ⊎-elim (predicated-again r w movaFromTile (inr refl))
     (λ e. ⊎-elim (from-tile-again r w)
     (λ e. ⊎-elim (from-array-again r w movaFromArray (inl refl))
     (λ e. ⊎-elim (from-array-again r w movazFromArray (inr refl)) (store-again r w)
     (or-parts (fromArray movazFromArray r) (store r) e))
     (or-parts (fromArray movaFromArray r) (fromArray movazFromArray r || store r) e))
     (or-parts (fromTile r) (fromArray movaFromArray r || (fromArray movazFromArray r || store r)) e))
-    (or-parts (toTile r) (fromTile r || (fromArray movaFromArray r || (fromArray movazFromArray r || store r))) (every-at proper table proper-table r i))
+    (or-parts (predicated movaFromTile r) (fromTile r || (fromArray movaFromArray r || (fromArray movazFromArray r || store r))) e))
+    (or-parts (predicated movaToTile r) (predicated movaFromTile r || (fromTile r || (fromArray movaFromArray r || (fromArray movazFromArray r || store r)))) (every-at proper table proper-table r i))

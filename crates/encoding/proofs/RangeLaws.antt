@@ -21,7 +21,7 @@ use Rattle.encoding.specs.declared.operation.ElementSize.{ElementSize}
 use Rattle.encoding.specs.declared.operation.ElementSize.the-variants.{Bits8, Bits16, Bits32, Bits64, Bits128}
 use Rattle.encoding.specs.declared.operation.ArrayToVectors.{ArrayToVectors}
 use Rattle.encoding.specs.declared.operation.Operation.{Operation}
-use Rattle.encoding.specs.declared.operation.Operation.the-variants.{MovaToTile, MovazFromTile, MovaFromArray, MovazFromArray, St1}
+use Rattle.encoding.specs.declared.operation.Operation.the-variants.{MovaToTile, MovazFromTile, MovaFromArray, MovazFromArray, St1, MovaFromTile}
 use Rattle.encoding.proofs.BoolLaws.{and-parts, by-test}
 use Rattle.encoding.proofs.BitLaws.{bits-below}
 use Rattle.encoding.proofs.TableLaws.{every, every-at, first-found}
@@ -119,6 +119,9 @@ in-range (MovazFromTile o) h = record { tile = h .tile (bytes-some (o .size)); o
 in-range (MovaFromArray o) h = array-in-range _ o h
 in-range (MovazFromArray o) h = array-in-range _ o h
 in-range (St1 o) h = record { tile = h .tile (bytes-some (o .size)); offset = h .offset; index = h .index; predicate = h .predicate; base = h .base; addend = h .addend }
+in-range (MovaFromTile o) h =
+    let whole = o .whole in
+    record { whole = record { tile = h .tile (bytes-some (whole .size)); offset = h .offset; index = h .index; vector = omega (arith, h .vectors) }; predicate = h .predicate }
 
 pub decoded-in-range : DecodedInRange
 unfolding rowOfWord

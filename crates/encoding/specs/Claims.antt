@@ -5,12 +5,13 @@ use mathlib.Core.Path.{_≡_}
 use mathlib.Core.Bool.{true}
 use mathlib.Core.List.{List, []}
 use lib.ListN.{length, getD}
+use Rattle.settings.specs.Answer.{done}
 use Rattle.settings.specs.Settings.{maxLevel}
 use Rattle.encoding.specs.Flat.{flatOf, unflattenOf}
 use Rattle.encoding.specs.Row.{Row, entry}
-use Rattle.encoding.specs.Table.{table}
+use Rattle.encoding.specs.Table.{baseTable, table}
 use Rattle.encoding.specs.Word.{fits, numbersIn}
-use Rattle.encoding.specs.Codec.{decodeOf, encodeOf, encodeFlatOf}
+use Rattle.encoding.specs.Codec.{rowIn, decodeBy, decodeOf, decodeAnswerBy, decodeAnswer, encodeOf, encodeFlatOf}
 use Rattle.encoding.specs.declared.operation.Operation.{Operation}
 use Rattle.encoding.specs.declared.operation.Decoded.the-variants.{Done}
 use Rattle.encoding.specs.declared.operation.Encoded.the-variants.{Word}
@@ -27,6 +28,13 @@ DecodeInvertsEncode = (o : Operation) (w : ℕ) → encodeOf o ≡ Word w → (w
 -- a word that decodes at a level decodes to the same at every higher one up to 3
 abbrev pub HigherLevelDecodesSame : Type 0
 HigherLevelDecodesSame = (w level higher : ℕ) (o : Operation) → level ≤ higher → higher ≤ maxLevel → decodeOf w level ≡ Done o → decodeOf w higher ≡ Done o
+
+-- Every word that the thirteen rows of 01 decode by themselves, at some level, decodes as by them at every level: from the same
+-- level on, to the same operation and with the same eleven numbers. So rows that a request adds take no word from them.
+abbrev pub DecodesAsBefore : Type 0
+DecodesAsBefore =
+    (w some level : ℕ) → decodeAnswerBy (rowIn baseTable w) w some .number ≡ done →
+    (decodeOf w level ≡ decodeBy (rowIn baseTable w) w level) × (decodeAnswer w level ≡ decodeAnswerBy (rowIn baseTable w) w level)
 
 -- row i of the table, from 0; what is given past its end does not matter
 abbrev pub rowAt : ℕ → Row

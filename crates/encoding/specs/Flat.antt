@@ -1,5 +1,5 @@
--- The flat form: an operation as eleven numbers, for hosts. The numbers and their order are this project's own, as
--- docs/DECISIONS.md says; 01 §4 asks only that each word has one decoded form.
+-- The flat form: an operation as eleven numbers, for hosts. Their order is this project's own, as docs/DECISIONS.md says, and
+-- the kinds' numbers are those of docs/TABLE.md; 01 §4 asks only that each word has one decoded form.
 -- To believe: `flatOf`. The way back undoes it, which specs/Claims.antt states.
 -- Assumes nothing.
 use Prim.Native.Nat.{ℕ}
@@ -13,8 +13,10 @@ use Rattle.encoding.specs.declared.operation.Direction.{Direction}
 use Rattle.encoding.specs.declared.operation.Direction.the-variants.{Horizontal, Vertical}
 use Rattle.encoding.specs.declared.operation.RegisterCount.{RegisterCount}
 use Rattle.encoding.specs.declared.operation.RegisterCount.the-variants.{Two, Four}
+use Rattle.encoding.specs.declared.operation.TileToVector.{TileToVector}
+use Rattle.encoding.specs.declared.operation.ArrayToVectors.{ArrayToVectors}
 use Rattle.encoding.specs.declared.operation.Operation.{Operation}
-use Rattle.encoding.specs.declared.operation.Operation.the-variants.{MovaToTile, MovazFromTile, MovaFromArray, MovazFromArray, St1}
+use Rattle.encoding.specs.declared.operation.Operation.the-variants.{MovaToTile, MovazFromTile, MovaFromArray, MovazFromArray, St1, MovaFromTile}
 use Rattle.encoding.specs.declared.operation.Unflattened.{Unflattened}
 use Rattle.encoding.specs.declared.operation.Unflattened.the-variants.{Done, OutOfRange}
 
@@ -33,6 +35,9 @@ movazFromArray = 4
 
 abbrev pub st1 : ℕ
 st1 = 5
+
+abbrev pub movaFromTile : ℕ
+movaFromTile = 6
 
 -- the bytes of an element, m of 01 §3
 abbrev pub bytesOf : ElementSize → ℕ
@@ -59,6 +64,7 @@ flatOf (MovazFromTile o) = movazFromTile ∷ bytesOf (o .size) ∷ directionNumb
 flatOf (MovaFromArray o) = movaFromArray ∷ 0 ∷ 0 ∷ 0 ∷ o .off ∷ o .rv ∷ 0 ∷ o .zd ∷ 0 ∷ 0 ∷ registersOf (o .registers) ∷ []
 flatOf (MovazFromArray o) = movazFromArray ∷ 0 ∷ 0 ∷ 0 ∷ o .off ∷ o .rv ∷ 0 ∷ o .zd ∷ 0 ∷ 0 ∷ registersOf (o .registers) ∷ []
 flatOf (St1 o) = st1 ∷ bytesOf (o .size) ∷ directionNumber (o .direction) ∷ o .zat ∷ o .imm ∷ o .rs ∷ o .pg ∷ 0 ∷ o .rn ∷ o .rm ∷ 0 ∷ []
+flatOf (MovaFromTile o) = movaFromTile ∷ bytesOf (o .whole .size) ∷ directionNumber (o .whole .direction) ∷ o .whole .zan ∷ o .whole .off ∷ o .whole .rs ∷ o .pg ∷ o .whole .zd ∷ 0 ∷ 0 ∷ 1 ∷ []
 
 -- The way back. Where the numbers are of no operation it gives some operation, whose numbers are then others.
 abbrev pub sizeOf : ℕ → ElementSize
@@ -70,17 +76,25 @@ directionOf d = cond (eqb d 0) Horizontal Vertical
 abbrev pub registerCountOf : ℕ → RegisterCount
 registerCountOf r = cond (eqb r 2) Two Four
 
+abbrev pub tileToVectorOf : List ℕ → TileToVector
+tileToVectorOf ns = record { size = sizeOf (getD ns 1 0); direction = directionOf (getD ns 2 0); rs = getD ns 5 0; zan = getD ns 3 0; off = getD ns 4 0; zd = getD ns 7 0 }
+
+abbrev pub arrayToVectorsOf : List ℕ → ArrayToVectors
+arrayToVectorsOf ns = record { registers = registerCountOf (getD ns 10 0); rv = getD ns 5 0; off = getD ns 4 0; zd = getD ns 7 0 }
+
 abbrev pub operationOf : List ℕ → Operation
 operationOf ns =
     cond (eqb (getD ns 0 0) movaToTile)
     (MovaToTile (record { size = sizeOf (getD ns 1 0); direction = directionOf (getD ns 2 0); rs = getD ns 5 0; pg = getD ns 6 0; zn = getD ns 7 0; zad = getD ns 3 0; off = getD ns 4 0 }))
     (cond (eqb (getD ns 0 0) movazFromTile)
-    (MovazFromTile (record { size = sizeOf (getD ns 1 0); direction = directionOf (getD ns 2 0); rs = getD ns 5 0; zan = getD ns 3 0; off = getD ns 4 0; zd = getD ns 7 0 }))
+    (MovazFromTile (tileToVectorOf ns))
     (cond (eqb (getD ns 0 0) movaFromArray)
-    (MovaFromArray (record { registers = registerCountOf (getD ns 10 0); rv = getD ns 5 0; off = getD ns 4 0; zd = getD ns 7 0 }))
+    (MovaFromArray (arrayToVectorsOf ns))
     (cond (eqb (getD ns 0 0) movazFromArray)
-    (MovazFromArray (record { registers = registerCountOf (getD ns 10 0); rv = getD ns 5 0; off = getD ns 4 0; zd = getD ns 7 0 }))
-    (St1 (record { size = sizeOf (getD ns 1 0); direction = directionOf (getD ns 2 0); rs = getD ns 5 0; pg = getD ns 6 0; rn = getD ns 8 0; rm = getD ns 9 0; zat = getD ns 3 0; imm = getD ns 4 0 })))))
+    (MovazFromArray (arrayToVectorsOf ns))
+    (cond (eqb (getD ns 0 0) st1)
+    (St1 (record { size = sizeOf (getD ns 1 0); direction = directionOf (getD ns 2 0); rs = getD ns 5 0; pg = getD ns 6 0; rn = getD ns 8 0; rm = getD ns 9 0; zat = getD ns 3 0; imm = getD ns 4 0 }))
+    (MovaFromTile (record { pg = getD ns 6 0; whole = tileToVectorOf ns }))))))
 
 -- two lists have the same numbers
 abbrev pub same : List ℕ → List ℕ → Bool

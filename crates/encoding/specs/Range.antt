@@ -6,10 +6,11 @@ use mathlib.Core.Path.{_≡_}
 use Rattle.encoding.specs.Flat.{bytesOf, registersOf}
 use Rattle.encoding.specs.Codec.{decodeOf}
 use Rattle.encoding.specs.declared.operation.Operation.{Operation}
-use Rattle.encoding.specs.declared.operation.Operation.the-variants.{MovaToTile, MovazFromTile, MovaFromArray, MovazFromArray, St1}
+use Rattle.encoding.specs.declared.operation.Operation.the-variants.{MovaToTile, MovazFromTile, MovaFromArray, MovazFromArray, St1, MovaFromTile}
 use Rattle.encoding.specs.declared.operation.Decoded.the-variants.{Done}
 use Rattle.encoding.specs.declared.operation.VectorToTile.{VectorToTile}
 use Rattle.encoding.specs.declared.operation.TileToVector.{TileToVector}
+use Rattle.encoding.specs.declared.operation.PredicatedTileToVector.{PredicatedTileToVector}
 use Rattle.encoding.specs.declared.operation.ArrayToVectors.{ArrayToVectors}
 use Rattle.encoding.specs.declared.operation.TileToMemory.{TileToMemory}
 
@@ -25,6 +26,10 @@ pub record FromTileInRange (o : TileToVector) : Type 0 where
   pub offset : o .off < 16
   pub index : o .rs < 16
   pub vector : o .zd < 32
+
+pub record PredicatedInRange (o : PredicatedTileToVector) : Type 0 where
+  pub whole : FromTileInRange (o .whole)
+  pub predicate : o .pg < 8
 
 pub record ArrayInRange (o : ArrayToVectors) : Type 0 where
   pub offset : o .off < 16
@@ -45,6 +50,7 @@ InRange (MovazFromTile o) = FromTileInRange o
 InRange (MovaFromArray o) = ArrayInRange o
 InRange (MovazFromArray o) = ArrayInRange o
 InRange (St1 o) = StoreInRange o
+InRange (MovaFromTile o) = PredicatedInRange o
 
 abbrev pub DecodedInRange : Type 0
 DecodedInRange = (w level : ℕ) (o : Operation) → decodeOf w level ≡ Done o → InRange o

@@ -9,6 +9,7 @@ pub use operation::Direction;
 pub use operation::ElementSize;
 pub use operation::Encoded;
 pub use operation::Operation;
+pub use operation::PredicatedTileToVector;
 pub use operation::RegisterCount;
 pub use operation::TileToMemory;
 pub use operation::TileToVector;

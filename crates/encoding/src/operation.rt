@@ -48,6 +48,13 @@ pub struct TileToVector {
     pub zd: u8,
 }
 
+// A predicated move of a tile slice to a vector register: the active elements under pg of the move of the
+// whole slice, the others stay. What both moves from a tile have comes first, so that it has one place in memory.
+pub struct PredicatedTileToVector {
+    pub whole: TileToVector,
+    pub pg: u8,
+}
+
 // A move of a vector group of ZA to as many vector registers, the first of which is zd.
 pub struct ArrayToVectors {
     pub registers: RegisterCount,
@@ -68,13 +75,14 @@ pub struct TileToMemory {
     pub imm: u8,
 }
 
-// The five kinds of operation. MOVAZ also zeroes what it moves.
+// The six kinds of operation. MOVAZ also zeroes what it moves.
 pub enum Operation {
     MovaToTile(VectorToTile),
     MovazFromTile(TileToVector),
     MovaFromArray(ArrayToVectors),
     MovazFromArray(ArrayToVectors),
     St1(TileToMemory),
+    MovaFromTile(PredicatedTileToVector),
 }
 
 // What decoding a word gives.

@@ -2,7 +2,7 @@
 -- Assumes nothing.
 use Prim.Native.Nat.{ℕ, _+_, _*_, _/_, _%_, _^_, _≤_, _<_}
 use mathlib.Core.Path.{_≡_, ap, fun-ext}
-use mathlib.Core.Bool.{true}
+use mathlib.Core.Bool.{Bool, true}
 use mathlib.Core.List.{List, [], _∷_}
 use native.Mathlib.Nat.{mul-le-mul-right, add-mul, one-mul, mod-lt, div-add-mod'}
 use native.Mathlib.Omega.{arith}
@@ -62,9 +62,9 @@ module _ (B : ℕ) (x p z za : List ℕ) {n s : ℕ} where
   unfolding movedToTile
   moved-to-tile o e f = rw (f, e)
 
-  pub taken-from-tile : (o : TileToVector) → n ≡ B / bytesOf (o .size) → s ≡ (getD x (o .rs) 0 % 2 ^ 32 + o .off) % n → scatter (from (o .zd * B)) all (λ (k : ℕ). getD za (sliceAt B (bytesOf (o .size)) (o .zan) (o .direction) s k) 0) B z ≡ takenFromTile B B x p o z za
+  pub taken-from-tile : (on : ℕ → Bool) (o : TileToVector) → n ≡ B / bytesOf (o .size) → s ≡ (getD x (o .rs) 0 % 2 ^ 32 + o .off) % n → scatter (from (o .zd * B)) on (λ (k : ℕ). getD za (sliceAt B (bytesOf (o .size)) (o .zan) (o .direction) s k) 0) B z ≡ takenFromTile B B x p on o z za
   unfolding takenFromTile
-  taken-from-tile o e f = rw (f, e)
+  taken-from-tile on o e f = rw (f, e)
 
   pub zeroed-in-tile : (o : TileToVector) → n ≡ B / bytesOf (o .size) → s ≡ (getD x (o .rs) 0 % 2 ^ 32 + o .off) % n → scatter (sliceAt B (bytesOf (o .size)) (o .zan) (o .direction) s) all zeros B za ≡ zeroedInTile B B x p o za
   unfolding zeroedInTile

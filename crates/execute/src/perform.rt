@@ -66,5 +66,9 @@ fn operate(
             Executed::Done
         }
         Operation::St1(o) => store::store(o, settings, x, p, za, memory),
+        Operation::MovaFromTile(o) => {
+            tile::move_from_tile(o, vector_bytes, x, z, p, za);
+            Executed::Done
+        }
     }
 }

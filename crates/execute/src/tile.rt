@@ -1,9 +1,11 @@
 // Moves between a vector register and a tile slice (document 01 §5).
 ghost use mathlib.Core.Path.{_≡_};
 ghost use lib.ListN.{length};
-ghost use Rattle.encoding.specs.Range.{ToTileInRange, FromTileInRange};
-ghost use Rattle.execution.specs.Effect.{movedToTile, takenFromTile, zeroedInTile};
+ghost use Rattle.encoding.specs.Range.{ToTileInRange, FromTileInRange, PredicatedInRange};
+ghost use Rattle.tiles.specs.Scatter.{all};
+ghost use Rattle.execution.specs.Effect.{activeUnder, movedToTile, takenFromTile, zeroedInTile};
 ghost use Rattle.execute.specs.Promise.{Sized};
+use encoding::PredicatedTileToVector;
 use encoding::TileToVector;
 use encoding::VectorToTile;
 use store::selected;
@@ -48,7 +50,7 @@ pub(crate) fn take_from_tile(
     za: &mut [u8],
 )
     requires { ⌜ Sized «vector_bytes» (length (now x)) (length (now z)) (length (now p)) (length (now za)) × FromTileInRange operation ⌝ }
-    ensures { λ _. ⌜ now (z .exit) ≡ takenFromTile «vector_bytes» «vector_bytes» (now (x .entry)) (now (p .entry)) operation (now (z .entry)) (now (za .entry)) ⌝ }
+    ensures { λ _. ⌜ now (z .exit) ≡ takenFromTile «vector_bytes» «vector_bytes» (now (x .entry)) (now (p .entry)) all operation (now (z .entry)) (now (za .entry)) ⌝ }
     ensures { λ _. ⌜ now (za .exit) ≡ zeroedInTile «vector_bytes» «vector_bytes» (now (x .entry)) (now (p .entry)) operation (now (za .entry)) ⌝ }
 {
     let size = operation.size;
@@ -64,5 +66,36 @@ pub(crate) fn take_from_tile(
         direction,
         selected(x[operation.rs as usize], operation.off, n),
         operation.zd as usize * vector_bytes,
+    );
+}
+
+// Copies the active elements of a slice of a tile to a vector register; the others of the register stay.
+pub(crate) fn move_from_tile(
+    operation: PredicatedTileToVector,
+    vector_bytes: usize,
+    x: &[u64],
+    z: &mut [u8],
+    p: &[u8],
+    za: &[u8],
+)
+    requires { ⌜ Sized «vector_bytes» (length (now x)) (length (now z)) (length (now p)) (length (now za)) × PredicatedInRange operation ⌝ }
+    ensures { λ _. ⌜ now (z .exit) ≡ takenFromTile «vector_bytes» «vector_bytes» (now (x .entry)) (now (p .entry)) (activeUnder «vector_bytes» «vector_bytes» (now (x .entry)) (now (p .entry)) (operation .pg) (operation .whole .size)) (operation .whole) (now (z .entry)) (now (za .entry)) ⌝ }
+{
+    let whole = operation.whole;
+    let size = whole.size;
+    let direction = whole.direction;
+    let n = slices::elements_in(vector_bytes, size);
+    slices::merge_from_slice(
+        z,
+        whole.zd as usize * vector_bytes,
+        za,
+        p,
+        vector_bytes,
+        vector_bytes,
+        size,
+        whole.zan as usize,
+        direction,
+        selected(x[whole.rs as usize], whole.off, n),
+        operation.pg as usize * (vector_bytes / 8),
     );
 }

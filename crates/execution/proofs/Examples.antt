@@ -20,6 +20,7 @@ use Rattle.execution.specs.Store.{least}
 use Rattle.execution.specs.Effect.{selected, movedToTile, takenFromTile, zeroedInTile, takenFromArray, zeroedInArray, stored}
 use Rattle.execution.specs.Execute.{storeAnswer, answerOf, executeOf}
 use Rattle.execution.specs.Examples.{Example1, Example2, Example3, Example4, Example5, Example6, Example7, Example8, Example9, Example10, ExampleStore, Example12, ExamplesHold}
+use Rattle.execution.specs.AddedExamples.{ExampleFromTile, ExampleTwo, ExampleFour, ExampleRefused}
 
 row-1 : (B : ℕ) (x : List ℕ) → selected x 12 0 (B / bytesOf Bits8) ≡ getD x 12 0 % 2 ^ 32 % B
 row-1 B x = rw (div-one, add-zero)
@@ -75,6 +76,22 @@ example-12 : Example12
 unfolding table rowOfWord decodeOf isVectorLength scatter active byteOf sliceAt groupAt least movedToTile takenFromTile zeroedInTile takenFromArray zeroedInArray stored storeAnswer answerOf executeOf
 example-12 = record { both = refl; za = refl; level = refl }
 
+example-from-tile : ExampleFromTile
+unfolding table rowOfWord decodeOf isVectorLength scatter active byteOf sliceAt groupAt least movedToTile takenFromTile zeroedInTile takenFromArray zeroedInArray stored storeAnswer answerOf executeOf
+example-from-tile = record { row = refl; none = refl; column = refl; wide = refl; narrow = refl; pairs = refl; eights = refl }
+
+example-two : ExampleTwo
+unfolding table rowOfWord decodeOf isVectorLength scatter active byteOf sliceAt groupAt least movedToTile takenFromTile zeroedInTile takenFromArray zeroedInArray stored storeAnswer answerOf executeOf
+example-two = record { moves = refl; longer = refl }
+
+example-four : ExampleFour
+unfolding table rowOfWord decodeOf isVectorLength scatter active byteOf sliceAt groupAt least movedToTile takenFromTile zeroedInTile takenFromArray zeroedInArray stored storeAnswer answerOf executeOf
+example-four = record { moves = refl; longer = refl }
+
+example-refused : ExampleRefused
+unfolding table rowOfWord decodeOf isVectorLength scatter active byteOf sliceAt groupAt least movedToTile takenFromTile zeroedInTile takenFromArray zeroedInArray stored storeAnswer answerOf executeOf
+example-refused = record { low = refl; streaming = refl; za = refl }
+
 pub examples-hold : ExamplesHold
 examples-hold =
     record {
@@ -92,4 +109,5 @@ examples-hold =
       example10 = example-10;
       exampleStore = example-store;
       example12 = example-12;
+      added = record { fromTile = example-from-tile; two = example-two; four = example-four; refused = example-refused };
     }

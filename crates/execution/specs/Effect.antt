@@ -1,7 +1,8 @@
--- What each operation writes, on buffers of the right lengths. Renders 01 §5.
+-- What each operation writes, on buffers of the right lengths. Renders 01 §5 as docs/TABLE.md amends it.
 -- To believe: which bytes of which buffer, and their values. Vectors start S bytes apart, and are B bytes long.
 -- Assumes nothing.
 use Prim.Native.Nat.{ℕ, _+_, _*_, _-_, _/_, _%_, _^_}
+use mathlib.Core.Bool.{Bool}
 use mathlib.Core.List.{List}
 use lib.ListN.{getD}
 use Rattle.encoding.specs.Flat.{bytesOf, registersOf}
@@ -11,7 +12,7 @@ use Rattle.encoding.specs.declared.operation.TileToVector.{TileToVector}
 use Rattle.encoding.specs.declared.operation.ArrayToVectors.{ArrayToVectors}
 use Rattle.encoding.specs.declared.operation.TileToMemory.{TileToMemory}
 use Rattle.encoding.specs.declared.operation.Operation.{Operation}
-use Rattle.encoding.specs.declared.operation.Operation.the-variants.{MovaToTile, MovazFromTile, MovaFromArray, MovazFromArray, St1}
+use Rattle.encoding.specs.declared.operation.Operation.the-variants.{MovaToTile, MovazFromTile, MovaFromArray, MovazFromArray, St1, MovaFromTile}
 use Rattle.tiles.specs.Scatter.{scatter, all, zeros, from}
 use Rattle.tiles.specs.Predicate.{active}
 use Rattle.tiles.specs.Tile.{sliceAt}
@@ -46,15 +47,19 @@ module _ (S B : ℕ) (x p : List ℕ) where
   abbrev pub group : ArrayToVectors → List ℕ
   group o = groupOf B (registersOf (o .registers)) (selected x (o .rv) (o .off) (B / registersOf (o .registers)))
 
+  -- byte k of a vector is of an element that a predicate register makes active
+  abbrev pub activeUnder : ℕ → ElementSize → ℕ → Bool
+  activeUnder pg size = active p (pg * (S / 8)) (bytesOf size)
+
   -- active elements of the slice take the register's, the others keep what they have
   unfoldable pub movedToTile : VectorToTile → List ℕ → List ℕ → List ℕ
   movedToTile o z za =
-      scatter (sliceAt S (bytesOf (o .size)) (o .zad) (o .direction) (sliceIn o)) (active p (o .pg * (S / 8)) (bytesOf (o .size))) (λ (k : ℕ). getD z (o .zn * S + k) 0) B za
+      scatter (sliceAt S (bytesOf (o .size)) (o .zad) (o .direction) (sliceIn o)) (activeUnder (o .pg) (o .size)) (λ (k : ℕ). getD z (o .zn * S + k) 0) B za
 
-  -- the register takes the slice
-  unfoldable pub takenFromTile : TileToVector → List ℕ → List ℕ → List ℕ
-  takenFromTile o z za =
-      scatter (from (o .zd * S)) all (λ (k : ℕ). getD za (sliceAt S (bytesOf (o .size)) (o .zan) (o .direction) (sliceOut o) k) 0) B z
+  -- those bytes of the register that are `on` take the slice's, the others keep what they have
+  unfoldable pub takenFromTile : (ℕ → Bool) → TileToVector → List ℕ → List ℕ → List ℕ
+  takenFromTile on o z za =
+      scatter (from (o .zd * S)) on (λ (k : ℕ). getD za (sliceAt S (bytesOf (o .size)) (o .zan) (o .direction) (sliceOut o) k) 0) B z
 
   -- the slice is zero
   unfoldable pub zeroedInTile : TileToVector → List ℕ → List ℕ
@@ -72,12 +77,13 @@ module _ (S B : ℕ) (x p : List ℕ) where
   -- active elements of the slice go to memory, which starts at address a
   unfoldable pub stored : TileToMemory → ℕ → List ℕ → List ℕ → List ℕ
   stored o a za memory =
-      scatter (λ (k : ℕ). addressAt (baseOf x (o .rn)) (offsetOf x (o .rm)) (bytesOf (o .size)) k - a) (active p (o .pg * (S / 8)) (bytesOf (o .size))) (λ (k : ℕ). getD za (sliceAt S (bytesOf (o .size)) (o .zat) (o .direction) (sliceStored o) k) 0) B memory
+      scatter (λ (k : ℕ). addressAt (baseOf x (o .rn)) (offsetOf x (o .rm)) (bytesOf (o .size)) k - a) (activeUnder (o .pg) (o .size)) (λ (k : ℕ). getD za (sliceAt S (bytesOf (o .size)) (o .zat) (o .direction) (sliceStored o) k) 0) B memory
 
   -- the buffers after an operation; what is not named stays
   abbrev pub effectOf : ℕ → Operation → State → State
   effectOf a (MovaToTile o) s = record { z = s .z; za = movedToTile o (s .z) (s .za); memory = s .memory }
-  effectOf a (MovazFromTile o) s = record { z = takenFromTile o (s .z) (s .za); za = zeroedInTile o (s .za); memory = s .memory }
+  effectOf a (MovazFromTile o) s = record { z = takenFromTile all o (s .z) (s .za); za = zeroedInTile o (s .za); memory = s .memory }
   effectOf a (MovaFromArray o) s = record { z = takenFromArray o (s .z) (s .za); za = s .za; memory = s .memory }
   effectOf a (MovazFromArray o) s = record { z = takenFromArray o (s .z) (s .za); za = zeroedInArray o (s .za); memory = s .memory }
   effectOf a (St1 o) s = record { z = s .z; za = s .za; memory = stored o a (s .za) (s .memory) }
+  effectOf a (MovaFromTile o) s = record { z = takenFromTile (activeUnder (o .pg) (o .whole .size)) (o .whole) (s .z) (s .za); za = s .za; memory = s .memory }

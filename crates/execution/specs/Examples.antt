@@ -1,105 +1,22 @@
 -- The worked examples of 01 §7 marked *, in full, as one claim: what the words mean, where the bytes lie, and what execution
--- gives; with 12, and parts beyond 01's sentences that are marked so. To believe: what each part says (the first two parts stand where words and places do), and the buffers.
+-- gives; with 12, parts beyond 01's sentences that are marked so, and the examples of the words that 02's requests add. To believe:
+-- what each part says (those about words and places, and of the added words, stand in files of their own).
 -- Assumes nothing.
-use Prim.Native.Nat.{ℕ, zero, suc, _+_, _*_, _-_, _/_, _%_, _^_}
+use Prim.Native.Nat.{ℕ, _+_, _*_, _-_, _/_, _%_, _^_}
 use mathlib.Core.Path.{_≡_}
-use mathlib.Core.Bool.{Bool, true, false, cond, not}
+use mathlib.Core.Bool.{Bool, true, false, cond}
 use mathlib.Core.List.{List, [], _∷_, _++_, map}
 use lib.Dec.{eqb}
 use lib.ListN.{getD, set, take, drop, replicate}
-use Rattle.settings.specs.declared.Settings.{Settings}
 use Rattle.encoding.specs.Flat.{bytesOf}
 use Rattle.encoding.specs.Examples.{WordsHold}
 use Rattle.encoding.specs.declared.operation.ElementSize.the-variants.{Bits8, Bits32, Bits64, Bits128}
 use Rattle.encoding.specs.declared.operation.Direction.the-variants.{Horizontal}
-use Rattle.tiles.specs.Scatter.{pick}
 use Rattle.tiles.specs.Examples.{PlacesHold}
-use Rattle.execution.specs.Answer.{executedNumber, executedAddress}
-use Rattle.execution.specs.Effect.{State, selected, sliceIn}
-use Rattle.execution.specs.Execute.{Outcome, executeOf}
-
--- ---- buffers
-
--- bytes in turn from two lists, the first byte from the first list if the test holds
-abbrev pub alternate : Bool → List ℕ → List ℕ → List ℕ
-alternate b [] ys = []
-alternate b (x ∷ xs) [] = []
-alternate b (x ∷ xs) (y ∷ ys) = pick b x y ∷ alternate (not b) xs ys
-
--- n bytes from index i on, none of them zero, neighbours different; each buffer starts elsewhere
-abbrev pub bytesFrom : ℕ → ℕ → List ℕ
-bytesFrom i zero = []
-bytesFrom i (suc n) = (i * 7 % 251 + 1) ∷ bytesFrom (suc i) n
-
-abbrev pub vectorIn : List ℕ → ℕ → ℕ → List ℕ
-vectorIn l B v = take B (drop (v * B) l)
-
-abbrev pub settingsAt : ℕ → ℕ → Settings
-settingsAt B address = record { «vector_bytes» = B; level = 3; streaming = true; za = true; «memory_address» = address }
-
-abbrev pub zAt : ℕ → List ℕ
-zAt B = bytesFrom 11 (32 * B)
-
-abbrev pub zaAt : ℕ → List ℕ
-zaAt B = bytesFrom 97 (B * B)
-
-abbrev pub memoryOf : ℕ → List ℕ
-memoryOf n = bytesFrom 200 n
-
-abbrev pub stateAt : ℕ → ℕ → State
-stateAt B n = record { z = zAt B; za = zaAt B; memory = memoryOf n }
-
--- X with one register set
-abbrev pub xWith : ℕ → ℕ → List ℕ
-xWith r v = set (bytesFrom 50 32) r v
-
--- P with every bit set, and with register 0 given, all others set
-abbrev pub ones : ℕ → List ℕ
-ones B = replicate (16 * (B / 8)) 255
-
-abbrev pub predicate0 : ℕ → List ℕ → List ℕ
-predicate0 B r = r ++ replicate (15 * (B / 8)) 255
-
--- what a host sees of an execution: the number and the address of its answer, and the buffers
-pub record Seen : Type 0 where
-  pub number : ℕ
-  pub address : ℕ
-  pub state : State
-
-abbrev pub seen : Outcome → Seen
-seen o = record { number = executedNumber (o .answer); address = executedAddress (o .answer); state = o .state }
-
--- a word executed at a vector length, with memory of n bytes at address 0
-abbrev pub executed : ℕ → ℕ → ℕ → List ℕ → List ℕ → Seen
-executed B w n x p = seen (executeOf (settingsAt B 0) w x p (stateAt B n))
-
-abbrev pub executedAt : ℕ → ℕ → Seen
-executedAt level w =
-    seen (executeOf (record { «vector_bytes» = 16; level = level; streaming = true; za = true; «memory_address» = 0 }) w (bytesFrom 50 32) (ones 16) (stateAt 16 8))
-
--- C0000000 at B 16 under a level and the two switches
-abbrev pub executedUnder : ℕ → Bool → Bool → Seen
-executedUnder level streaming za =
-    seen (executeOf (record { «vector_bytes» = 16; level = level; streaming = streaming; za = za; «memory_address» = 0 }) 0xC0000000 (bytesFrom 50 32) (ones 16) (stateAt 16 8))
-
--- E022A823 at B 32 with n bytes of memory at 1000 hex
-abbrev pub storedAt : ℕ → Seen
-storedAt n =
-    seen (executeOf (settingsAt 32 0x1000) 0xE022A823 (set (set (xWith 13 20) 1 0xFF0) 2 0x18) (replicate 8 255 ++ (replicate 4 0x55 ++ replicate 52 255)) (stateAt 32 n))
-
--- a buffer of n vectors of B bytes, given by vector
-abbrev pub vectors : ℕ → ℕ → (ℕ → List ℕ) → List ℕ
-vectors B zero f = []
-vectors B (suc n) f = vectors B n f ++ f n
-
--- 0, with these Z, ZA and memory; refused by a number with an address, nothing changed
-abbrev pub doneWith : List ℕ → List ℕ → List ℕ → Seen
-doneWith z za memory = record { number = 0; address = 0; state = record { z = z; za = za; memory = memory } }
-
-abbrev pub refusedWith : ℕ → ℕ → ℕ → ℕ → Seen
-refusedWith B n number address = record { number = number; address = address; state = stateAt B n }
-
--- ---- what execution gives
+use Rattle.execution.specs.Effect.{selected, sliceIn}
+use Rattle.execution.specs.Execute.{executeOf}
+use Rattle.execution.specs.ExampleBuffers.{alternate, vectorIn, settingsAt, zAt, zaAt, memoryOf, stateAt, xWith, ones, predicate0, Seen, seen, executed, executedUnder, executedAt, vectors, doneWith, refusedWith}
+use Rattle.execution.specs.AddedExamples.{AddedHold}
 
 -- C0000000: byte tile, row (W12) mod B, P0, Z0
 pub record Example1 : Type 0 where
@@ -181,6 +98,11 @@ pub record Example10 : Type 0 where
   -- beyond 01's sentence: where only a later element faults, nothing is written either
   pub later : executed 16 0xE0220020 64 (set (set (xWith 12 5) 1 56) 2 0) (ones 16) ≡ refusedWith 16 64 7 64
 
+-- E022A823 at B 32 with n bytes of memory at 1000 hex
+abbrev pub storedAt : ℕ → Seen
+storedAt n =
+    seen (executeOf (settingsAt 32 0x1000) 0xE022A823 (set (set (xWith 13 20) 1 0xFF0) 2 0x18) (replicate 8 255 ++ (replicate 4 0x55 ++ replicate 52 255)) (stateAt 32 n))
+
 -- beyond 01's examples: E022A823 is a vertical store, W13, P2, X1, X2, offset 3. B 32, W13 = 20: column 23; memory at 1000 hex, the
 -- first byte at 1008 hex, elements 0, 2, 4, .. active. With 64 bytes of memory it is done, with 28 element 20 is outside
 pub record ExampleStore : Type 0 where
@@ -190,9 +112,9 @@ pub record ExampleStore : Type 0 where
 
 -- 12, and the other checks of settings: C0000000 at level 1 with both switches off gives 4, with ZA off 5; level 4 gives 1
 pub record Example12 : Type 0 where
-  pub both : executedUnder 1 false false ≡ refusedWith 16 8 4 0
-  pub za : executedUnder 1 true false ≡ refusedWith 16 8 5 0
-  pub level : executedUnder 4 true true ≡ refusedWith 16 8 1 0
+  pub both : executedUnder 1 false false 0xC0000000 ≡ refusedWith 16 8 4 0
+  pub za : executedUnder 1 true false 0xC0000000 ≡ refusedWith 16 8 5 0
+  pub level : executedAt 4 0xC0000000 ≡ refusedWith 16 8 1 0
 
 pub record ExamplesHold : Type 0 where
   pub words : WordsHold
@@ -209,3 +131,4 @@ pub record ExamplesHold : Type 0 where
   pub example10 : Example10
   pub exampleStore : ExampleStore
   pub example12 : Example12
+  pub added : AddedHold

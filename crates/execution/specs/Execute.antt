@@ -14,14 +14,13 @@ use Rattle.encoding.specs.Flat.{bytesOf}
 use Rattle.encoding.specs.Codec.{decodeOf}
 use Rattle.encoding.specs.declared.operation.TileToMemory.{TileToMemory}
 use Rattle.encoding.specs.declared.operation.Operation.{Operation}
-use Rattle.encoding.specs.declared.operation.Operation.the-variants.{MovaToTile, MovazFromTile, MovaFromArray, MovazFromArray, St1}
+use Rattle.encoding.specs.declared.operation.Operation.the-variants.{MovaToTile, MovazFromTile, MovaFromArray, MovazFromArray, St1, MovaFromTile}
 use Rattle.encoding.specs.declared.operation.Decoded.{Decoded}
 use Rattle.encoding.specs.declared.operation.Decoded.the-variants as decoded
-use Rattle.tiles.specs.Predicate.{active}
 use Rattle.execution.specs.declared.answer.Executed.{Executed}
 use Rattle.execution.specs.declared.answer.Executed.the-variants.{Done, BadSettings, BadLengths, Undecodable, StreamingOff, ZaOff, StackMisaligned, OutsideMemory}
 use Rattle.execution.specs.Store.{baseOf, offsetOf, addressAt, inMemory, least, isSome}
-use Rattle.execution.specs.Effect.{State, effectOf}
+use Rattle.execution.specs.Effect.{State, activeUnder, effectOf}
 
 -- ---- the answer
 
@@ -43,7 +42,7 @@ validLengths s lx lz lp lza lm =
 module _ (s : Settings) (x p : List ℕ) (lm : ℕ) where
   -- byte k of a store is of an active element
   abbrev pub storeActive : TileToMemory → ℕ → Bool
-  storeActive o = active p (o .pg * (strideOf s / 8)) (bytesOf (o .size))
+  storeActive o = activeUnder (strideOf s) (s .«vector_bytes») x p (o .pg) (o .size)
 
   -- byte k is of an active element and not in memory
   abbrev pub faulting : TileToMemory → ℕ → Bool
@@ -68,6 +67,7 @@ module _ (s : Settings) (x p : List ℕ) (lm : ℕ) where
   operationAnswer (MovaFromArray o) = Done
   operationAnswer (MovazFromArray o) = Done
   operationAnswer (St1 o) = storeAnswer o
+  operationAnswer (MovaFromTile o) = Done
 
   abbrev pub decodedAnswer : Decoded → Executed
   decodedAnswer (decoded.Done o) = guard (s .streaming) StreamingOff (guard (s .za) ZaOff (operationAnswer o))

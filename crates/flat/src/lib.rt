@@ -2,13 +2,15 @@
 // offset, index register, predicate, first vector register, base register, offset register, number of
 // vector registers. A number that a kind does not have is 0. (specs/Flat.antt of the crate encoding lists them by kind.)
 ghost use mathlib.Core.Path.{_≡_};
-ghost use Rattle.encoding.specs.Flat.{flatOf, operationOf};
+ghost use mathlib.Core.List.{[], _∷_};
+ghost use Rattle.encoding.specs.Flat.{bytesOf, directionNumber, flatOf, tileToVectorOf, arrayToVectorsOf, operationOf};
 ghost use Rattle.encoding.specs.Codec.{Unflattens, encodeFlatOf};
 use encoding::ArrayToVectors;
 use encoding::Direction;
 use encoding::ElementSize;
 use encoding::Encoded;
 use encoding::Operation;
+use encoding::PredicatedTileToVector;
 use encoding::RegisterCount;
 use encoding::TileToMemory;
 use encoding::TileToVector;
@@ -23,36 +25,12 @@ pub fn flatten(operation: Operation) -> [u8; 11]
         Operation::MovaToTile(o) => {
             let size = o.size;
             let direction = o.direction;
-            [
-                1,
-                size.bytes(),
-                direction.number(),
-                o.zad,
-                o.off,
-                o.rs,
-                o.pg,
-                o.zn,
-                0,
-                0,
-                1,
-            ]
+            tile_numbers(1, size, direction, o.zad, o.off, o.rs, o.pg, o.zn, 0, 0, 1)
         }
         Operation::MovazFromTile(o) => {
             let size = o.size;
             let direction = o.direction;
-            [
-                2,
-                size.bytes(),
-                direction.number(),
-                o.zan,
-                o.off,
-                o.rs,
-                0,
-                o.zd,
-                0,
-                0,
-                1,
-            ]
+            tile_numbers(2, size, direction, o.zan, o.off, o.rs, 0, o.zd, 0, 0, 1)
         }
         Operation::MovaFromArray(o) => {
             let registers = o.registers;
@@ -65,10 +43,10 @@ pub fn flatten(operation: Operation) -> [u8; 11]
         Operation::St1(o) => {
             let size = o.size;
             let direction = o.direction;
-            [
+            tile_numbers(
                 5,
-                size.bytes(),
-                direction.number(),
+                size,
+                direction,
                 o.zat,
                 o.imm,
                 o.rs,
@@ -77,9 +55,46 @@ pub fn flatten(operation: Operation) -> [u8; 11]
                 o.rn,
                 o.rm,
                 0,
-            ]
+            )
+        }
+        Operation::MovaFromTile(o) => {
+            let w = o.whole;
+            let size = w.size;
+            let direction = w.direction;
+            tile_numbers(6, size, direction, w.zan, w.off, w.rs, o.pg, w.zd, 0, 0, 1)
         }
     }
+}
+
+// The eleven numbers of an operation on a tile's slice, size and direction by their numbers.
+fn tile_numbers(
+    kind: u8,
+    size: ElementSize,
+    direction: Direction,
+    tile: u8,
+    offset: u8,
+    index: u8,
+    predicate: u8,
+    vector: u8,
+    base: u8,
+    addend: u8,
+    registers: u8,
+) -> [u8; 11]
+    ensures { λ r. ⌜ r ≡ kind ∷ bytesOf size ∷ directionNumber direction ∷ tile ∷ offset ∷ index ∷ predicate ∷ vector ∷ base ∷ addend ∷ registers ∷ [] ⌝ }
+{
+    [
+        kind,
+        size.bytes(),
+        direction.number(),
+        tile,
+        offset,
+        index,
+        predicate,
+        vector,
+        base,
+        addend,
+        registers,
+    ]
 }
 
 // The operation that has these eleven numbers. OutOfRange where none has: for an unknown kind, size,
@@ -114,7 +129,6 @@ fn operation_of(numbers: &[u8; 11]) -> Operation
     let kind = numbers[0];
     let size = ElementSize::of_bytes(numbers[1]);
     let direction = Direction::of_number(wide(numbers[2]));
-    let registers = RegisterCount::of_number(numbers[10]);
     match kind {
         1 => Operation::MovaToTile(VectorToTile {
             size: size,
@@ -125,27 +139,10 @@ fn operation_of(numbers: &[u8; 11]) -> Operation
             zad: numbers[3],
             off: numbers[4],
         }),
-        2 => Operation::MovazFromTile(TileToVector {
-            size: size,
-            direction: direction,
-            rs: numbers[5],
-            zan: numbers[3],
-            off: numbers[4],
-            zd: numbers[7],
-        }),
-        3 => Operation::MovaFromArray(ArrayToVectors {
-            registers: registers,
-            rv: numbers[5],
-            off: numbers[4],
-            zd: numbers[7],
-        }),
-        4 => Operation::MovazFromArray(ArrayToVectors {
-            registers: registers,
-            rv: numbers[5],
-            off: numbers[4],
-            zd: numbers[7],
-        }),
-        _ => Operation::St1(TileToMemory {
+        2 => Operation::MovazFromTile(tile_to_vector_of(numbers)),
+        3 => Operation::MovaFromArray(array_to_vectors_of(numbers)),
+        4 => Operation::MovazFromArray(array_to_vectors_of(numbers)),
+        5 => Operation::St1(TileToMemory {
             size: size,
             direction: direction,
             rs: numbers[5],
@@ -155,6 +152,36 @@ fn operation_of(numbers: &[u8; 11]) -> Operation
             zat: numbers[3],
             imm: numbers[4],
         }),
+        _ => Operation::MovaFromTile(PredicatedTileToVector {
+            pg: numbers[6],
+            whole: tile_to_vector_of(numbers),
+        }),
+    }
+}
+
+// The move of a tile slice to a vector register in the eleven numbers.
+fn tile_to_vector_of(numbers: &[u8; 11]) -> TileToVector
+    ensures { λ r. ⌜ r ≡ tileToVectorOf (now (numbers .entry)) ⌝ }
+{
+    TileToVector {
+        size: ElementSize::of_bytes(numbers[1]),
+        direction: Direction::of_number(wide(numbers[2])),
+        rs: numbers[5],
+        zan: numbers[3],
+        off: numbers[4],
+        zd: numbers[7],
+    }
+}
+
+// The move of a vector group in the eleven numbers.
+fn array_to_vectors_of(numbers: &[u8; 11]) -> ArrayToVectors
+    ensures { λ r. ⌜ r ≡ arrayToVectorsOf (now (numbers .entry)) ⌝ }
+{
+    ArrayToVectors {
+        registers: RegisterCount::of_number(numbers[10]),
+        rv: numbers[5],
+        off: numbers[4],
+        zd: numbers[7],
     }
 }
 

@@ -7,7 +7,7 @@ use mathlib.Core.Option.{Option, none, some}
 use native.Mathlib.Omega.{arith}
 use lib.ListN.{length}
 use Rattle.encoding.specs.declared.operation.Operation.{Operation}
-use Rattle.encoding.specs.declared.operation.Operation.the-variants.{MovaToTile, MovazFromTile, MovaFromArray, MovazFromArray, St1}
+use Rattle.encoding.specs.declared.operation.Operation.the-variants.{MovaToTile, MovazFromTile, MovaFromArray, MovazFromArray, St1, MovaFromTile}
 use Rattle.tiles.proofs.ScatterLaws.{length-scatter}
 use Rattle.execution.specs.declared.answer.Executed.{Executed}
 use Rattle.execution.specs.declared.answer.Executed.the-variants.{Done, BadSettings, BadLengths, Undecodable, StreamingOff, ZaOff, StackMisaligned, OutsideMemory}
@@ -73,6 +73,7 @@ za-long S B a x p (MovazFromTile o) t = length-scatter _ _ _ _ _
 za-long S B a x p (MovaFromArray o) t = refl
 za-long S B a x p (MovazFromArray o) t = length-scatter _ _ _ _ _
 za-long S B a x p (St1 o) t = refl
+za-long S B a x p (MovaFromTile o) t = refl
 
 pub call-long : (c : Call) (za : List ℕ) → length (zaAfter c za) ≡ length za
 call-long c za = go (call-ends c za)

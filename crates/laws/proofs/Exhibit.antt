@@ -58,7 +58,7 @@ inward-decodes : (size : ElementSize) (d : Direction) (t : ℕ) → t < bytesOf 
 inward-decodes size d t h = word-decodes (inward size d t) _ (to-tile-encodes d 12 0 0 t 0 size _ (omega arith, omega arith, omega arith, omega arith, h, offsets-some size) refl .equal)
 
 outward-decodes : (size : ElementSize) (d : Direction) (t : ℕ) → t < bytesOf size → decodeOf (wordFor (outward size d t)) maxLevel ≡ decoded.Done (outward size d t)
-outward-decodes size d t h = word-decodes (outward size d t) _ (from-tile-encodes d 12 t 0 0 size _ (omega arith, omega arith, h, offsets-some size, omega arith) refl .equal)
+outward-decodes size d t h = word-decodes (outward size d t) _ (from-tile-encodes d 0 12 t 0 0 true size _ (omega arith, omega arith, omega arith, h, offsets-some size, omega arith) refl .equal)
 
 -- ---- orders
 

@@ -17,11 +17,11 @@ use Rattle.execution.specs.declared.answer.Executed.{Executed}
 use Rattle.execution.specs.Answer.{executedNumber}
 use Rattle.execution.specs.Store.{least}
 use Rattle.execution.specs.Execute.{storeAnswer, answerOf, executeOf}
-use Rattle.execution.specs.Examples.{zaAt}
+use Rattle.execution.specs.ExampleBuffers.{zaAt}
 use Rattle.execution.proofs.ExecuteLaws.{Refusal}
-use Rattle.laws.specs.Calls.{Call, run}
+use Rattle.laws.specs.Calls.{Call, run, numbersAt}
 use Rattle.laws.specs.Crossing.{times, Crosses}
-use Rattle.laws.specs.Exhibit.{Ready, shownRows, shownColumns, shownSettings, shownZ, shownP, refusedCalls, numbersAt, RefusalsShown, shownIn, shownOut, ListShown}
+use Rattle.laws.specs.Exhibit.{Ready, shownRows, shownColumns, shownSettings, shownZ, shownP, refusedCalls, RefusalsShown, shownIn, shownOut, ListShown}
 use Rattle.laws.proofs.CallLaws.{run-long, cons-same, nil-cons}
 use Rattle.laws.proofs.Exhibit.{lists-exist, refused-may-stand}
 

@@ -2,18 +2,19 @@
 -- To believe: what a call is handed, and that whether it is done is execution's own answer at the ZA that it meets.
 -- Assumes nothing.
 use Prim.Native.Nat.{ℕ}
-use mathlib.Core.List.{List, [], _∷_}
+use mathlib.Core.List.{List, [], _∷_, map}
 use mathlib.Core.Option.{Option, none, some}
 use Rattle.settings.specs.declared.Settings.{Settings}
 use Rattle.encoding.specs.Codec.{decodeOf}
 use Rattle.encoding.specs.declared.operation.ElementSize.{ElementSize}
 use Rattle.encoding.specs.declared.operation.Direction.{Direction}
 use Rattle.encoding.specs.declared.operation.Operation.{Operation}
-use Rattle.encoding.specs.declared.operation.Operation.the-variants.{MovaToTile, MovazFromTile, MovaFromArray, MovazFromArray, St1}
+use Rattle.encoding.specs.declared.operation.Operation.the-variants.{MovaToTile, MovazFromTile, MovaFromArray, MovazFromArray, St1, MovaFromTile}
 use Rattle.encoding.specs.declared.operation.Decoded.{Decoded}
 use Rattle.encoding.specs.declared.operation.Decoded.the-variants as decoded
 use Rattle.execution.specs.declared.answer.Executed.{Executed}
 use Rattle.execution.specs.declared.answer.Executed.the-variants.{Done, BadSettings, BadLengths, Undecodable, StreamingOff, ZaOff, StackMisaligned, OutsideMemory}
+use Rattle.execution.specs.Answer.{executedNumber}
 use Rattle.execution.specs.Effect.{State, sliceIn, sliceOut}
 use Rattle.execution.specs.Execute.{Outcome, strideOf, executeOf}
 
@@ -41,6 +42,10 @@ unfoldable pub run : List Call → List ℕ → List ℕ
 run [] za = za
 run (c ∷ cs) za = run cs (zaAfter c za)
 
+-- the numbers of the calls' answers, each at the same ZA
+abbrev pub numbersAt : List Call → List ℕ → List ℕ
+numbersAt cs za = map (λ (c : Call). executedNumber (outcome c za .answer)) cs
+
 -- what the call's word means at its own level
 abbrev pub decodedOf : Call → Decoded
 decodedOf c = decodeOf (c .word) (c .settings .level)
@@ -58,6 +63,7 @@ moveAt S B c (MovazFromTile o) = out S B (o .size) (o .direction) (o .zan) (slic
 moveAt S B c (MovaFromArray o) = other
 moveAt S B c (MovazFromArray o) = other
 moveAt S B c (St1 o) = other
+moveAt S B c (MovaFromTile o) = other
 
 -- with the stride and the vector length of the call's own settings
 abbrev pub moveOf : Call → Operation → Move
@@ -91,13 +97,14 @@ unfoldable pub moves : List Call → List ℕ → List Move
 moves [] za = []
 moves (c ∷ cs) za = withMove (moved c za) (moves cs (zaAfter c za))
 
--- the register numbers of a tile move's word: Zn or Zd, and Pg
+-- the register numbers of a word that moves into a tile, or out of it with zeroing: Zn or Zd, and Pg; 0 for another
 abbrev pub vectorIn : Decoded → ℕ
 vectorIn (decoded.Done (MovaToTile o)) = o .zn
 vectorIn (decoded.Done (MovazFromTile o)) = o .zd
 vectorIn (decoded.Done (MovaFromArray o)) = 0
 vectorIn (decoded.Done (MovazFromArray o)) = 0
 vectorIn (decoded.Done (St1 o)) = 0
+vectorIn (decoded.Done (MovaFromTile o)) = 0
 vectorIn decoded.BadLevel = 0
 vectorIn decoded.Undecodable = 0
 
@@ -107,6 +114,7 @@ predicateIn (decoded.Done (MovazFromTile o)) = 0
 predicateIn (decoded.Done (MovaFromArray o)) = 0
 predicateIn (decoded.Done (MovazFromArray o)) = 0
 predicateIn (decoded.Done (St1 o)) = 0
+predicateIn (decoded.Done (MovaFromTile o)) = 0
 predicateIn decoded.BadLevel = 0
 predicateIn decoded.Undecodable = 0
 

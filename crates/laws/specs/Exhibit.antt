@@ -20,9 +20,8 @@ use Rattle.encoding.specs.declared.operation.Operation.{Operation}
 use Rattle.encoding.specs.declared.operation.Operation.the-variants.{MovaToTile, MovazFromTile}
 use Rattle.tiles.specs.Tile.{flip}
 use Rattle.execution.specs.declared.answer.Executed.the-variants.{Done}
-use Rattle.execution.specs.Answer.{executedNumber}
-use Rattle.execution.specs.Examples.{bytesFrom, settingsAt, zaAt}
-use Rattle.laws.specs.Calls.{Call, outcome, run}
+use Rattle.execution.specs.ExampleBuffers.{bytesFrom, settingsAt, zaAt}
+use Rattle.laws.specs.Calls.{Call, outcome, run, numbersAt}
 use Rattle.laws.specs.Crossing.{EachOnce, slicesOf, Crosses}
 
 -- the words: index register 12 with offset 0, predicate 0, register 0
@@ -116,10 +115,6 @@ refusedCalls =
     refusedAt (switched true false) 0xC0000000 (replicate 32 0) ∷
     refusedAt (settingsAt 32 0) 0xE03F03E0 (set (replicate 32 0) 31 0x1008) ∷
     refusedAt (settingsAt 32 0) 0xE0220020 (replicate 32 0) ∷ []
-
--- the numbers of the calls' answers at a ZA
-abbrev pub numbersAt : List Call → List ℕ → List ℕ
-numbersAt cs za = map (λ (c : Call). executedNumber (outcome c za .answer)) cs
 
 -- they are refused with 1 to 7 in turn, at any ZA of the right length
 abbrev pub RefusalsShown : Type 0

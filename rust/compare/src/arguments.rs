@@ -1,14 +1,17 @@
 //! What the command line asks for.
 
 use crate::command::{unknown, Options};
+use crate::rows::Drawn;
 use second::execute::Mistake;
 use std::ffi::OsString;
 
-/// A run's seed, its number of cases, and the mistake to be noticed.
+/// A run's seed, its number of cases, the rows that their words are drawn
+/// from, and the mistake to be noticed.
 #[derive(Clone, Copy, Debug, PartialEq, Eq)]
 pub struct Arguments {
     pub seed: u64,
     pub count: u64,
+    pub drawn: Drawn,
     pub mistake: Mistake,
 }
 
@@ -18,11 +21,12 @@ pub const SEED: u64 = 0x5EC0_0003;
 const DEFAULT: Arguments = Arguments {
     seed: SEED,
     count: 200_000,
+    drawn: Drawn::All,
     mistake: Mistake::None,
 };
 
 impl Arguments {
-    /// Reads options in any order; each takes one value.
+    /// Reads options in any order; each but `--added` takes one value.
     pub fn read(words: impl Iterator<Item = OsString>) -> Result<Arguments, String> {
         let mut options = Options::new(words);
         let mut arguments = DEFAULT;
@@ -30,6 +34,7 @@ impl Arguments {
             match option.as_str() {
                 "--seed" => arguments.seed = options.number(&option)?,
                 "--count" => arguments.count = options.number(&option)?,
+                "--added" => arguments.drawn = Drawn::Added,
                 "--mistake" => arguments.mistake = mistake(&options.value(&option)?)?,
                 _ => return Err(unknown(&option)),
             }
@@ -41,9 +46,11 @@ impl Arguments {
 /// How to call the program, with the names of the mistakes.
 pub fn usage() -> String {
     let mut usage = String::from(
-        "usage: compare [--seed S] [--count N] [--mistake NAME]\n\
-         Compares the archive with the second program on N random states (200000). With a mistake\n\
-         the second program makes it, and a difference must be found.",
+        "usage: compare [--seed S] [--count N] [--added] [--mistake NAME]\n\
+         Compares the archive with the second program on N random states (200000). With --added\n\
+         words are drawn only from the rows that request 1 added to the table, and only these rows\n\
+         are counted and judged, beside words without an encoding. With a mistake the second\n\
+         program makes it, and a difference must be found.",
     );
     for (name, _) in Mistake::NAMED {
         usage.push_str("\n  NAME: ");

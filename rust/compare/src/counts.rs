@@ -1,23 +1,39 @@
 //! What the cases of a run were, and whether any that must occur is missing.
 
 use crate::case::{Case, Outcome};
+use crate::rows::Drawn;
 use crate::situations::Situations;
 use crate::table::Table;
 use crate::view::View;
 use std::fmt::{self, Display, Formatter};
 
 /// Below this many cases, a cell of the table may be empty by chance.
-const ENOUGH: u64 = 50_000;
+const ENOUGH: u64 = 80_000;
 
 /// Counts of the cases on which the two programs agree.
-#[derive(Default)]
 pub struct Counts {
     cases: u64,
     table: Table,
     situations: Situations,
 }
 
+/// Counts of cases that are drawn from all rows.
+impl Default for Counts {
+    fn default() -> Counts {
+        Counts::new(Drawn::All)
+    }
+}
+
 impl Counts {
+    /// No cases yet, to be drawn from these rows.
+    pub fn new(drawn: Drawn) -> Counts {
+        Counts {
+            cases: 0,
+            table: Table::new(drawn),
+            situations: Situations::new(drawn),
+        }
+    }
+
     /// Counts one case.
     pub fn add(&mut self, case: &Case, outcome: &Outcome) {
         self.cases += 1;

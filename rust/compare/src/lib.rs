@@ -11,6 +11,7 @@ pub mod counts;
 pub mod difference;
 pub mod exhaustive;
 pub mod generate;
+pub mod rows;
 pub mod run;
 pub mod situations;
 pub mod table;

@@ -5,12 +5,18 @@ use crate::case::{Case, Outcome};
 use crate::counts::Counts;
 use crate::difference::Difference;
 use crate::generate::generate;
+use crate::rows::Drawn;
 use second::execute::Mistake;
 use second::inputs::random::Random;
 
 /// Runs what the command line asks for. True if it passes.
 pub fn run(arguments: &Arguments) -> bool {
-    println!("seed 0x{:X}, count {}", arguments.seed, arguments.count);
+    let words = match arguments.drawn {
+        Drawn::All => "all words",
+        Drawn::Added => "added words",
+    };
+    let Arguments { seed, count, .. } = arguments;
+    println!("seed 0x{seed:X}, count {count}, {words}");
     match arguments.mistake {
         Mistake::None => compare(arguments),
         _ => notice(arguments),
@@ -20,7 +26,7 @@ pub fn run(arguments: &Arguments) -> bool {
 /// Compares all cases and prints the counts. True if all agree and nothing
 /// that can occur is missing.
 fn compare(arguments: &Arguments) -> bool {
-    let mut counts = Counts::default();
+    let mut counts = Counts::new(arguments.drawn);
     let found = first_difference(arguments, |case, outcome| counts.add(case, outcome));
     if let Some(difference) = found {
         print!("{difference}");
@@ -62,7 +68,7 @@ pub fn first_difference(
     let mut second = Outcome::default();
     let mut archive = Outcome::default();
     for number in 1..=arguments.count {
-        generate(&mut random, &mut case);
+        generate(&mut random, &mut case, arguments.drawn);
         second.run_second(&case, arguments.mistake);
         archive.run_archive(&case);
         if !second.agrees(&archive) {

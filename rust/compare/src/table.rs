@@ -1,13 +1,13 @@
 //! How often each answer was given, by encoding and vector length.
 
 use crate::case::Case;
+use crate::rows::{encoding, Drawn, NO_ENCODING, STORE};
 use second::execute::VECTOR_LENGTHS;
-use second::inputs::rows::{Row, ROWS};
 use std::fmt::{self, Display, Formatter};
 
-/// The thirteen encodings, in the order of document 01, section 4, and the
-/// words without any.
-const NAMES: [&str; 14] = [
+/// The encodings, in the order of the table of words, and the words without
+/// any.
+pub(crate) const NAMES: [&str; NO_ENCODING + 1] = [
     "move to tile, m=1",
     "move to tile, m=2",
     "move to tile, m=4",
@@ -21,42 +21,52 @@ const NAMES: [&str; 14] = [
     "move from array, four",
     "move and zero from array, two",
     "store of bytes",
+    "move from tile, m=1",
+    "move from tile, m=2",
+    "move from tile, m=4",
+    "move from tile, m=8",
+    "move from tile, m=16",
+    "move from array, two",
+    "move and zero from array, four",
     "no encoding",
 ];
-const STORE: usize = 12;
-const NO_ENCODING: usize = 13;
 /// The answers of execution, 0 to 7.
 const ANSWERS: usize = 8;
 
-/// Counts by encoding, vector length and answer.
+/// Counts by encoding, vector length and answer, of cases that are drawn
+/// from some rows.
 ///
 /// A case whose vector length is not one of the five has no line to stand
 /// in; it is answered 1 and counted apart, by encoding.
 pub struct Table {
+    drawn: Drawn,
     counts: [[[u64; ANSWERS]; VECTOR_LENGTHS.len()]; NAMES.len()],
     other_length: [u64; NAMES.len()],
     strange: Vec<String>,
 }
 
-impl Default for Table {
-    fn default() -> Table {
+impl Table {
+    /// No cases yet, to be drawn from these rows.
+    pub fn new(drawn: Drawn) -> Table {
         Table {
+            drawn,
             counts: [[[0; ANSWERS]; VECTOR_LENGTHS.len()]; NAMES.len()],
             other_length: [0; NAMES.len()],
             strange: Vec::new(),
         }
     }
-}
 
-impl Table {
     /// Counts one case.
     pub fn add(&mut self, case: &Case, answer: u32) {
         let row = encoding(case.word).unwrap_or(NO_ENCODING);
         let given = case.settings.vector_bytes;
         let length = VECTOR_LENGTHS.iter().position(|own| *own == given);
+        let drawn = self.drawn.has(row);
         match (length, answer as usize) {
-            (Some(length), answer) if answer < ANSWERS => self.counts[row][length][answer] += 1,
-            (None, 1) => self.other_length[row] += 1,
+            (Some(length), answer) if drawn && answer < ANSWERS => {
+                self.counts[row][length][answer] += 1;
+            }
+            (None, 1) if drawn => self.other_length[row] += 1,
             _ => self.strange.push(format!(
                 "{}, vector length {given}: answer {answer}",
                 NAMES[row]
@@ -81,7 +91,7 @@ impl Table {
     /// Cells that can occur and are empty, and too few cases done.
     pub fn missing(&self) -> Vec<String> {
         let mut missing = self.cells(|possible, count| possible && count == 0);
-        for (row, name) in NAMES.iter().enumerate() {
+        for (row, name) in self.names() {
             if self.other_length[row] == 0 {
                 missing.push(format!("{name}, other vector length: 0 cases"));
             }
@@ -92,7 +102,8 @@ impl Table {
         missing
     }
 
-    /// Answers that document 01 does not allow, although both agree on them.
+    /// Answers that document 01 does not allow, although both agree on them,
+    /// and words of rows that are not drawn from.
     pub fn impossible(&self) -> Vec<String> {
         let mut impossible = self.cells(|possible, count| !possible && count > 0);
         impossible.extend_from_slice(&self.strange);
@@ -102,7 +113,7 @@ impl Table {
     /// The cells that `chosen` picks by whether they can occur and by count.
     fn cells(&self, chosen: impl Fn(bool, u64) -> bool) -> Vec<String> {
         let mut cells = Vec::new();
-        for (row, name) in NAMES.iter().enumerate() {
+        for (row, name) in self.names() {
             for (bytes, line) in VECTOR_LENGTHS.iter().zip(&self.counts[row]) {
                 for (answer, &count) in line.iter().enumerate() {
                     if chosen(can_occur(row, answer), count) {
@@ -129,6 +140,13 @@ impl Table {
     fn total(&self) -> u64 {
         (0..ANSWERS).map(|answer| self.answered(answer)).sum()
     }
+
+    /// The rows that are drawn from, and the words without an encoding.
+    fn names(&self) -> impl Iterator<Item = (usize, &'static str)> {
+        let drawn = self.drawn;
+        let names = NAMES.into_iter().enumerate();
+        names.filter(move |&(row, _)| drawn.has(row))
+    }
 }
 
 /// Which answers document 01 allows: 6 and 7 to the store only, 0 and what
@@ -142,13 +160,6 @@ fn can_occur(row: usize, answer: usize) -> bool {
     }
 }
 
-/// The row of the table in section 4 that the word belongs to, whatever the
-/// level.
-fn encoding(word: u32) -> Option<usize> {
-    let fits = |row: &Row| (word ^ row.base) & row.fixed() == 0;
-    ROWS.iter().position(fits)
-}
-
 impl Display for Table {
     fn fmt(&self, f: &mut Formatter) -> fmt::Result {
         write!(f, "{:<30} {:>6}", "encoding", "length")?;
@@ -156,7 +167,7 @@ impl Display for Table {
             write!(f, " {answer:>8}")?;
         }
         writeln!(f)?;
-        for (row, name) in NAMES.iter().enumerate() {
+        for (row, name) in self.names() {
             for (length, bytes) in VECTOR_LENGTHS.iter().enumerate() {
                 write!(f, "{name:<30} {bytes:>6}")?;
                 write_line(f, row, &self.counts[row][length])?;

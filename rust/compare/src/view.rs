@@ -12,6 +12,8 @@ pub struct View<'a> {
     pub case: &'a Case,
     pub answer: u32,
     pub address: u64,
+    /// The buffers after the call.
+    pub after: &'a Outcome,
     /// What the word decodes to at the highest level.
     pub operation: Option<Flat>,
     /// The numbers of the active elements, where there is a predicate.
@@ -19,12 +21,13 @@ pub struct View<'a> {
 }
 
 impl<'a> View<'a> {
-    pub fn new(case: &'a Case, outcome: &Outcome) -> View<'a> {
+    pub fn new(case: &'a Case, outcome: &'a Outcome) -> View<'a> {
         let operation = decode(case.word, 3).ok();
         View {
             case,
             answer: outcome.answer,
             address: outcome.address,
+            after: outcome,
             operation,
             active: operation.map_or(Vec::new(), |own| active(case, &own)),
         }
@@ -62,6 +65,11 @@ impl<'a> View<'a> {
     pub fn index_sum(&self) -> u64 {
         let sum = |own: Flat| self.x(own.index) % (1 << 32) + u64::from(own.offset);
         self.operation.map_or(0, sum)
+    }
+
+    /// The number of the slice, or of the first vector of a group.
+    pub fn number(&self) -> u64 {
+        self.index_sum() % self.elements()
     }
 
     /// The base register of a store.
@@ -139,7 +147,7 @@ fn parts(operation: &Flat) -> u64 {
 }
 
 fn predicated(operation: &Flat) -> bool {
-    [flat::MOVA_TO_TILE, flat::STORE].contains(&operation.kind)
+    [flat::MOVA_TO_TILE, flat::STORE, flat::MOVA_FROM_TILE].contains(&operation.kind)
 }
 
 /// The bytes of a predicate register, or none where P is too short.

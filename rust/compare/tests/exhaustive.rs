@@ -74,9 +74,13 @@ fn words_agree_on_one_thread_and_on_two() {
     let two = words::compare(&Programs::REAL, RANGE, &TWO).expect("no difference");
     assert_eq!(one, two);
     assert_eq!(one.words, 0x11_0100);
-    // Moves of bytes to tiles from level 1 on, those from tiles at level 3,
-    // and of the two array forms one at 2 and the other at 3.
-    assert_eq!(one.decoding, [0, 32768, 33024, 37632]);
+    // Moves of bytes to and from tiles from level 1 on, two and four vectors
+    // of the array from level 2 on; all that zeroes at level 3.
+    let tiles = 32768 + 32768;
+    let array = 512 + 256;
+    let zeroing = 4096 + 512 + 256;
+    let decoding = [0, tiles, tiles + array, tiles + array + zeroing];
+    assert_eq!(one.decoding, decoding);
     assert_eq!(one.check(), Ok(()));
 }
 
@@ -134,6 +138,22 @@ fn the_lowest_of_two_differences_is_told() {
     assert!(told.contains("word BFFF0001 at level 0\n"), "{told}");
 }
 
+/// A move from a tile differs from its zeroing twin in bit 9 and the
+/// predicate, which the twin has not.
+#[test]
+fn a_bit_that_is_not_looked_at_is_noticed() {
+    for (bits, told_word) in [
+        (0x200, "C0020200 at level 1"),
+        (0x1C00, "C0020600 at level 3"),
+    ] {
+        let told = told_of_words(WrongDecode(|word: u32, level, fields: &mut Numbers| {
+            let twin = word & 0xFFFF_0200 == 0xC002_0200;
+            twin.then(|| Second.decode(word & !bits, level, fields))
+        }));
+        assert!(told.contains(&format!("word {told_word}\n")), "{told}");
+    }
+}
+
 #[test]
 fn a_wrong_answer_at_no_level_is_noticed() {
     let told = told_of_words(WrongDecode(|word, level, _: &mut Numbers| {
@@ -187,16 +207,35 @@ fn fields_agree_on_one_thread_and_on_two() {
 }
 
 #[test]
-fn bases_are_encodable_and_of_every_kind_size_and_direction() {
+fn bases_are_encodable_and_of_every_kind_size_direction_and_number_of_registers() {
     let bases = fields::bases();
-    let mut shapes: Vec<&[u8]> = bases.iter().map(|base| &base[..3]).collect();
+    let shape = |base: &Numbers| [base[0], base[1], base[2], base[10]];
+    let mut shapes: Vec<[u8; 4]> = bases.iter().map(shape).collect();
     shapes.sort();
     shapes.dedup();
-    // Five sizes of two kinds and one store in two directions, two array forms.
-    assert_eq!(shapes.len(), 2 * (5 + 5 + 1) + 2);
+    // Five sizes of three kinds and one store in two directions, and two
+    // array kinds of two and of four registers.
+    assert_eq!(shapes.len(), 2 * (3 * 5 + 1) + 2 * 2);
+    assert_eq!(bases.len(), 776);
     for base in &bases {
         assert_eq!(Archive.encode(base, &mut 0), 0, "{base:?}");
     }
+}
+
+/// Two and four registers of the array differ in the multiples that the
+/// first register may be.
+#[test]
+fn a_first_register_between_the_groups_is_noticed() {
+    const FOUR: Numbers = [4, 0, 0, 0, 0, 8, 0, 0, 0, 0, 4];
+    let programs = Programs {
+        archive: WrongEncode(|fields: &Numbers, word: &mut u32| {
+            let between = fields[..7] == FOUR[..7] && fields[7] == 2 && fields[10] == 4;
+            between.then(|| *word = 0xC006_0E02).map(|()| 0)
+        }),
+        second: Second,
+    };
+    let told = fields::compare(&programs, &[FOUR], DRAWS, &TWO).expect_err("a difference");
+    assert!(told.contains("numbers 4 0 0 0 0 8 0 2 0 0 4\n"), "{told}");
 }
 
 #[test]

@@ -52,6 +52,28 @@ mod tests {
     }
 
     #[test]
+    fn added_words_encode_back_from_their_level_on() {
+        for (word, level, meaning) in [
+            (
+                0xC082AD25,
+                1,
+                "move from tile: 4-byte elements, tile 2, vertical",
+            ),
+            (0xC006086A, 2, "move from array: 2 vectors"),
+            (0xC0064EFC, 3, "move and zero from array: 4 vectors"),
+        ] {
+            let text = printed(word, level);
+            assert!(text.starts_with(&format!("{word:08X}\n  meaning  {meaning}; ")));
+            assert!(text.ends_with(&format!("  encodes  {word:08X}, the same word\n")));
+            let refused = format!(
+                "{word:08X}\n  refused  3: no instruction of level {}\n",
+                level - 1
+            );
+            assert_eq!(printed(word, level - 1), refused);
+        }
+    }
+
+    #[test]
     fn refusals_are_said() {
         assert_eq!(
             printed(0xC0020200, 2),

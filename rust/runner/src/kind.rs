@@ -5,3 +5,9 @@ pub const MOVE_AND_ZERO_FROM_TILE: u8 = 2;
 pub const MOVE_FROM_ARRAY: u8 = 3;
 pub const MOVE_AND_ZERO_FROM_ARRAY: u8 = 4;
 pub const STORE: u8 = 5;
+pub const MOVE_FROM_TILE: u8 = 6;
+
+/// Whether a kind has a governing predicate, so that only active elements are moved or stored.
+pub fn is_predicated(kind: u8) -> bool {
+    matches!(kind, MOVE_TO_TILE | STORE | MOVE_FROM_TILE)
+}

@@ -96,7 +96,21 @@ pub fn member(state: &State, place: Place, number: usize, vector_bytes: usize) -
 mod tests {
     use super::*;
     use crate::script::parse;
-    use crate::taken::Taken;
+    use crate::taken::{active_elements, Taken};
+
+    fn machine(vector_bytes: usize) -> Machine {
+        let text = format!("vector-bytes {vector_bytes}\nword C0000000\n");
+        let mut machine = Machine::new(&parse(&text).expect("a good script"));
+        machine.state.x.fill(0x1_0000_0007);
+        machine
+    }
+
+    /// Bytes that are not zero and differ from their neighbours.
+    fn fill(bytes: &mut [u8], step: usize) {
+        for (number, byte) in bytes.iter_mut().enumerate() {
+            *byte = (number * step % 251 + 1) as u8;
+        }
+    }
 
     /// The bytes of the array that a word takes.
     fn taken_bytes(taken: &Taken, vector_bytes: usize) -> Vec<usize> {
@@ -121,14 +135,12 @@ mod tests {
     #[test]
     fn what_a_moving_and_zeroing_word_takes_is_what_the_unit_zeroes() {
         let words = [
-            0xC0020200, 0xC042A2E1, 0xC082A2C6, 0xC0C2E3BF, 0xC0C3E3E0, 0xC0060A6A,
+            0xC0020200, 0xC042A2E1, 0xC082A2C6, 0xC0C2E3BF, 0xC0C3E3E0, 0xC0060A6A, 0xC0064EFC,
         ];
         for vector_bytes in [16, 32, 64, 128, 256] {
             for word in words {
-                let text = format!("vector-bytes {vector_bytes}\nword {word:08X}\n");
-                let mut machine = Machine::new(&parse(&text).expect("a good script"));
+                let mut machine = machine(vector_bytes);
                 machine.state.za.fill(0xEE);
-                machine.state.x.fill(0x1_0000_0007);
                 let done = machine.execute(word);
                 assert_eq!(done.answer, Ok(()));
                 let taken = Taken::by(done.fields.unwrap(), vector_bytes, &machine.state.x);
@@ -145,6 +157,51 @@ mod tests {
                     expected,
                     "{word:08X}"
                 );
+            }
+        }
+    }
+
+    /// Whether each of the bytes that a word takes is moved to a vector register: those of active elements are.
+    fn moved_bytes(fields: Fields, taken: &Taken, machine: &Machine) -> Vec<bool> {
+        let length = machine.vector_bytes();
+        match *taken {
+            Taken::Vectors(ref vectors) => vec![true; vectors.len() * length],
+            Taken::Slice { tile, .. } => {
+                let predicate = machine.member(Place::Predicate, usize::from(fields.predicate));
+                let active = active_elements(tile, predicate);
+                let element = |byte| byte / tile.element_bytes;
+                (0..length)
+                    .map(|byte| active.contains(&element(byte)))
+                    .collect()
+            }
+        }
+    }
+
+    /// A word that does not zero is checked by the registers: they get just what is taken and active.
+    #[test]
+    fn what_a_moving_word_takes_is_what_the_unit_moves() {
+        let words = [
+            0xC0025569, 0xC04299BE, 0xC082AD25, 0xC0C2FDBF, 0xC0C305E2, 0xC00628E8, 0xC0062CE8,
+        ];
+        for vector_bytes in [16, 32, 64, 128, 256] {
+            for word in words {
+                let mut machine = machine(vector_bytes);
+                fill(&mut machine.state.p, 37);
+                fill(&mut machine.state.za, 7);
+                let mut expected = machine.state.clone();
+                let done = machine.execute(word);
+                assert_eq!(done.answer, Ok(()));
+                let fields = done.fields.unwrap();
+                let taken = Taken::by(fields, vector_bytes, &machine.state.x);
+                let first = usize::from(fields.vector) * vector_bytes;
+                let places = taken_bytes(&taken, vector_bytes).into_iter();
+                let moved = moved_bytes(fields, &taken, &machine);
+                for (byte, (place, moved)) in places.zip(moved).enumerate() {
+                    if moved {
+                        expected.z[first + byte] = expected.za[place];
+                    }
+                }
+                assert!(machine.state == expected, "{word:08X}");
             }
         }
     }

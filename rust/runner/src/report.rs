@@ -91,7 +91,7 @@ fn taking(out: &mut impl Write, fields: Fields, machine: &Machine) -> io::Result
     let registers = &machine.state.x;
     let taken = Taken::by(fields, machine.vector_bytes(), registers);
     item(out, "takes", &[what_is_taken(&taken), why(fields, machine)])?;
-    if let (kind::MOVE_TO_TILE | kind::STORE, Taken::Slice { tile, .. }) = (fields.kind, taken) {
+    if let (true, Taken::Slice { tile, .. }) = (kind::is_predicated(fields.kind), taken) {
         let predicate = machine.member(Place::Predicate, usize::from(fields.predicate));
         let active = active(&active_elements(tile, predicate), tile.slices());
         item(out, "active", &[active])?;

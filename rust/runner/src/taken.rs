@@ -91,9 +91,18 @@ mod tests {
     }
 
     #[test]
+    fn a_move_from_a_tile_takes_the_slice_that_zeroing_takes() {
+        for index in [0, 7, 0xFFFF_FFFF] {
+            assert_eq!(taken(0xC082AD25, 32, index), taken(0xC082A325, 32, index));
+        }
+    }
+
+    #[test]
     fn groups_of_the_array_are_a_stride_apart() {
         assert_eq!(taken(0xC0064CFC, 16, 2), Taken::Vectors(vec![1, 5, 9, 13]));
+        assert_eq!(taken(0xC0064EFC, 16, 2), Taken::Vectors(vec![1, 5, 9, 13]));
         assert_eq!(taken(0xC0060A6A, 16, 6), Taken::Vectors(vec![1, 9]));
+        assert_eq!(taken(0xC006086A, 32, 6), Taken::Vectors(vec![9, 25]));
     }
 
     #[test]

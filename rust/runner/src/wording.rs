@@ -36,6 +36,11 @@ pub fn meaning(fields: Fields) -> String {
             "move and zero from tile: {}; to vector register {vector}",
             slices(fields)
         ),
+        kind::MOVE_FROM_TILE => format!(
+            "move from tile: {}; to vector register {vector}, predicate {}",
+            slices(fields),
+            fields.predicate
+        ),
         kind::MOVE_FROM_ARRAY => format!("move from array: {}", group(fields)),
         kind::MOVE_AND_ZERO_FROM_ARRAY => format!("move and zero from array: {}", group(fields)),
         _ => format!(
@@ -170,8 +175,18 @@ mod tests {
                 0xC0C2E3BF,
                 "move and zero from tile: 8-byte elements, tile 6, vertical; to vector register 31",
             ),
+            (
+                0xC082AD25,
+                "move from tile: 4-byte elements, tile 2, vertical; to vector register 5, predicate 3",
+            ),
+            (
+                0xC0025569,
+                "move from tile: 1-byte elements, tile 0, horizontal; to vector register 9, predicate 5",
+            ),
+            (0xC006086A, "move from array: 2 vectors; to vector registers 10 to 11"),
             (0xC0064CFC, "move from array: 4 vectors; to vector registers 28 to 31"),
             (0xC0060A6A, "move and zero from array: 2 vectors; to vector registers 10 to 11"),
+            (0xC0064EFC, "move and zero from array: 4 vectors; to vector registers 28 to 31"),
             (
                 0xE0220020,
                 "store from tile: 1-byte elements, tile 0, horizontal; predicate 0, \

@@ -14,9 +14,10 @@ use std::collections::BTreeMap;
 use std::time::Instant;
 use verdict::{judge, Verdict};
 
-const SCRIPTS: [&str; 5] = [
+const SCRIPTS: [&str; 6] = [
     include_str!("../example.txt"),
     include_str!("scripts/array.txt"),
+    include_str!("scripts/fetch.txt"),
     include_str!("scripts/large.txt"),
     include_str!("scripts/refused.txt"),
     include_str!("scripts/store.txt"),

@@ -20,7 +20,7 @@ fn read(name: &str) -> String {
     std::fs::read_to_string(&path).unwrap_or_else(|error| panic!("{path}: {error}"))
 }
 
-const SCRIPTS: [&str; 4] = ["array", "large", "refused", "store"];
+const SCRIPTS: [&str; 5] = ["array", "fetch", "large", "refused", "store"];
 
 #[test]
 fn the_example_prints_what_is_stored() {
@@ -104,7 +104,8 @@ fn is_assembler(text: &str) -> bool {
 fn nothing_is_said_in_assembler() {
     let mut texts = vec![output(&["--help"]), output(&[]), output(&["--map"])];
     texts.push(output(&[
-        "--decode", "C0000000", "C0020200", "C0064CFC", "C0060A6A", "E03F03E0",
+        "--decode", "C0000000", "C0020200", "C0064CFC", "C0060A6A", "E03F03E0", "C0025569",
+        "C006086A", "C0064EFC",
     ]));
     texts.extend(SCRIPTS.map(|name| read(&format!("tests/scripts/{name}.stdout"))));
     texts.extend(SCRIPTS.map(|name| read(&format!("tests/scripts/{name}.txt"))));

@@ -18,7 +18,7 @@ pub fn count(level: u8) -> u64 {
 
 /// Counts from `first` up to, not with, `end`. The black boxes keep the
 /// compiler from settling whole ranges of words without calling decode.
-fn count_between(first: u64, end: u64, level: u8) -> u64 {
+pub fn count_between(first: u64, end: u64, level: u8) -> u64 {
     let mut found = 0;
     for number in first..end {
         let answer = decode(black_box(number as u32), level);

@@ -1,4 +1,5 @@
-//! Decoding of words (document 01, section 4; answers of section 6).
+//! Decoding of words (document 01, section 4, with the rows that request 1
+//! added to its table; answers of section 6).
 //!
 //! Written straight from the layouts: bits that tell the classes apart are
 //! tested first, then the fixed bits of the class, then the fields are cut
@@ -36,7 +37,7 @@ pub fn decode(word: u32, level: u8) -> Result<Flat, Refusal> {
 fn decode_move(word: u32, level: u8) -> Option<Flat> {
     match (word >> 17) & 0x1F {
         0b00000 if level >= SME => mova_to_tile(word),
-        0b00001 if level >= SME2P1 => movaz_from_tile(word),
+        0b00001 => tile_to_vector(word, level),
         0b00011 => array_to_vectors(word, level),
         _ => None,
     }
@@ -65,23 +66,28 @@ fn mova_to_tile(word: u32) -> Option<Flat> {
     })
 }
 
-/// MOVAZ from tile: V 15, Rs 14:13, tile and offset 8:5, Zd 4:0. It has no
-/// governing predicate.
-fn movaz_from_tile(word: u32) -> Option<Flat> {
+/// The moves from a tile: V 15, Rs 14:13, tile and offset 8:5, Zd 4:0. Bit
+/// 9 tells MOVAZ (1) from MOVA (0), which has Pg in bits 12:10 (page "MOVA
+/// (tile to vector, single)").
+fn tile_to_vector(word: u32, level: u8) -> Option<Flat> {
     let element_bytes = element_bytes(word)?;
-    // Bits 12:9 are fixed at 0001.
-    if (word >> 9) & 0xF != 0b0001 {
-        return None;
-    }
+    let zeroing = word & 0x200 != 0;
+    let predicate = ((word >> 10) & 7) as u8;
+    let kind = match (zeroing, predicate) {
+        (false, _) if level >= SME => flat::MOVA_FROM_TILE,
+        // MOVAZ has no governing predicate: bits 12:10 are fixed at 000.
+        (true, 0) if level >= SME2P1 => flat::MOVAZ_FROM_TILE,
+        _ => return None,
+    };
     let (tile, offset) = split_slice(element_bytes, ((word >> 5) & 0xF) as u8);
     Some(Flat {
-        kind: flat::MOVAZ_FROM_TILE,
+        kind,
         element_bytes,
         direction: ((word >> 15) & 1) as u8,
         tile,
         offset,
         index: 12 + ((word >> 13) & 3) as u8,
-        predicate: 0,
+        predicate,
         first_vector: (word & 31) as u8,
         base: 0,
         offset_register: 0,
@@ -89,44 +95,32 @@ fn movaz_from_tile(word: u32) -> Option<Flat> {
     })
 }
 
-/// The array forms: Rv 14:13, offset 7:5. Bits 11:8 tell the four-register
-/// MOVA (1100) from the two-register MOVAZ (1010).
+/// The array forms: Rv 14:13, offset 7:5. Bit 10 tells four registers (1)
+/// from two, and bit 9 tells MOVAZ (1) from MOVA (page "MOVA (array to
+/// vector, two registers)").
 fn array_to_vectors(word: u32, level: u8) -> Option<Flat> {
-    // Bits 23:22, 16, 15 and 12 are fixed at 0 in both forms.
-    if word & 0x00C1_9000 != 0 {
+    // Bits 23:22, 16, 15, 12 and 8 are fixed at 0 and bit 11 at 1.
+    if word & 0x00C1_9900 != 0x0000_0800 {
         return None;
     }
-    match (word >> 8) & 0xF {
-        0b1100 if level >= SME2 => mova_four(word),
-        0b1010 if level >= SME2P1 => movaz_two(word),
+    let vectors = if word & 0x400 != 0 { 4 } else { 2 };
+    match word & 0x200 != 0 {
+        false if level >= SME2 => array_form(word, flat::MOVA_ARRAY, vectors),
+        true if level >= SME2P1 => array_form(word, flat::MOVAZ_ARRAY, vectors),
         _ => None,
     }
 }
 
-/// MOVA array, four registers: Zd 4:2 is a quarter of the first register,
-/// bits 1:0 are fixed at 0.
-fn mova_four(word: u32) -> Option<Flat> {
-    if word & 0b11 != 0 {
+/// What the array forms have in common. Zd stands above one fixed 0 (two
+/// registers) or two of them (four), so bits 4:0 are the first register and
+/// it is a multiple of their number. Element size, direction, tile and
+/// predicate are not theirs and stay 0.
+fn array_form(word: u32, kind: u8, vectors: u8) -> Option<Flat> {
+    let first_vector = (word & 31) as u8;
+    if !first_vector.is_multiple_of(vectors) {
         return None;
     }
-    let zd = ((word >> 2) & 7) as u8;
-    Some(array_form(word, flat::MOVA_ARRAY, 4 * zd, 4))
-}
-
-/// MOVAZ array, two registers: Zd 4:1 is half of the first register, bit 0
-/// is fixed at 0.
-fn movaz_two(word: u32) -> Option<Flat> {
-    if word & 0b1 != 0 {
-        return None;
-    }
-    let zd = ((word >> 1) & 15) as u8;
-    Some(array_form(word, flat::MOVAZ_ARRAY, 2 * zd, 2))
-}
-
-/// What the two array forms have in common. Element size, direction, tile
-/// and predicate are not theirs and stay 0.
-fn array_form(word: u32, kind: u8, first_vector: u8, vectors: u8) -> Flat {
-    Flat {
+    Some(Flat {
         kind,
         element_bytes: 0,
         direction: 0,
@@ -138,7 +132,7 @@ fn array_form(word: u32, kind: u8, first_vector: u8, vectors: u8) -> Flat {
         base: 0,
         offset_register: 0,
         vectors,
-    }
+    })
 }
 
 /// ST1B: Rm 20:16, V 15, Rs 14:13, Pg 12:10, Rn 9:5, immediate 3:0.

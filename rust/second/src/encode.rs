@@ -1,5 +1,5 @@
-//! Encoding of the eleven numbers (document 01, section 4; refusal 8 of
-//! section 6).
+//! Encoding of the eleven numbers (document 01, section 4, with the rows
+//! that request 1 added to its table; refusal 8 of section 6).
 //!
 //! Each kind starts from the base words of the table, checks every number
 //! against its range, and ors the fields in. A number that the kind does
@@ -16,6 +16,7 @@ pub fn encode(operation: &Flat) -> Result<u32, Refusal> {
         flat::MOVA_ARRAY => mova_array(operation),
         flat::MOVAZ_ARRAY => movaz_array(operation),
         flat::STORE => store(operation),
+        flat::MOVA_FROM_TILE => mova_from_tile(operation),
         _ => None,
     };
     word.ok_or(Refusal::Field)
@@ -42,18 +43,30 @@ fn mova_to_tile(f: &Flat) -> Option<u32> {
     Some(base | v << 15 | rs << 13 | pg << 10 | zn << 5 | slice)
 }
 
-/// MOVAZ from tile, five element sizes, no governing predicate.
+/// MOVA from tile: Pg in bits 12:10, bit 9 clear.
+fn mova_from_tile(f: &Flat) -> Option<u32> {
+    let pg = up_to(f.predicate, 7)?;
+    Some(from_tile(f)? | pg << 10)
+}
+
+/// MOVAZ from tile: no governing predicate, bit 9 set.
 fn movaz_from_tile(f: &Flat) -> Option<u32> {
+    exactly(f.predicate, 0)?;
+    Some(from_tile(f)? | 1 << 9)
+}
+
+/// What the two moves from a tile share, five element sizes: MOVAZ has the
+/// bases of MOVA with bit 9 beside.
+fn from_tile(f: &Flat) -> Option<u32> {
     let base = match f.element_bytes {
-        1 => 0xC002_0200,
-        2 => 0xC042_0200,
-        4 => 0xC082_0200,
-        8 => 0xC0C2_0200,
-        16 => 0xC0C3_0200,
+        1 => 0xC002_0000,
+        2 => 0xC042_0000,
+        4 => 0xC082_0000,
+        8 => 0xC0C2_0000,
+        16 => 0xC0C3_0000,
         _ => return None,
     };
     exactly(f.vectors, 1)?;
-    exactly(f.predicate, 0)?;
     exactly(f.base, 0)?;
     exactly(f.offset_register, 0)?;
     let v = up_to(f.direction, 1)?;
@@ -63,27 +76,28 @@ fn movaz_from_tile(f: &Flat) -> Option<u32> {
     Some(base | v << 15 | rs << 13 | slice << 5 | zd)
 }
 
-/// MOVA array: the table has the form with four registers only. The first
-/// of them is a multiple of 4 and so already stands at its place: Zd times
-/// 4 in bits 4:2 is the register number in bits 4:0.
+/// MOVA array, two and four registers.
 fn mova_array(f: &Flat) -> Option<u32> {
-    exactly(f.vectors, 4)?;
-    let first = up_to(f.first_vector, 28)?;
-    exactly(f.first_vector % 4, 0)?;
-    Some(0xC006_0C00 | array_fields(f)? | first)
+    match f.vectors {
+        2 => Some(0xC006_0800 | array_fields(f)?),
+        4 => Some(0xC006_0C00 | array_fields(f)?),
+        _ => None,
+    }
 }
 
-/// MOVAZ array: the table has the form with two registers only; the first
-/// is a multiple of 2.
+/// MOVAZ array, two and four registers.
 fn movaz_array(f: &Flat) -> Option<u32> {
-    exactly(f.vectors, 2)?;
-    let first = up_to(f.first_vector, 30)?;
-    exactly(f.first_vector % 2, 0)?;
-    Some(0xC006_0A00 | array_fields(f)? | first)
+    match f.vectors {
+        2 => Some(0xC006_0A00 | array_fields(f)?),
+        4 => Some(0xC006_0E00 | array_fields(f)?),
+        _ => None,
+    }
 }
 
-/// The fields that the two array forms share, and the numbers that neither
-/// of them has.
+/// The fields that the array forms share, and the numbers that none of them
+/// has. The first register is a multiple of their number, 2 or 4, and so
+/// already stands at its place: Zd times 4 in bits 4:2, or Zd times 2 in
+/// bits 4:1, is the register number in bits 4:0.
 fn array_fields(f: &Flat) -> Option<u32> {
     exactly(f.element_bytes, 0)?;
     exactly(f.direction, 0)?;
@@ -93,7 +107,9 @@ fn array_fields(f: &Flat) -> Option<u32> {
     exactly(f.offset_register, 0)?;
     let rv = register_from(f.index, 8)?;
     let offset = up_to(f.offset, 7)?;
-    Some(rv << 13 | offset << 5)
+    let first = up_to(f.first_vector, 32 - f.vectors)?;
+    exactly(f.first_vector % f.vectors, 0)?;
+    Some(rv << 13 | offset << 5 | first)
 }
 
 /// ST1B: only the store of bytes is in the table, and it moves no vector

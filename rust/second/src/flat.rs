@@ -1,8 +1,9 @@
 //! The flat form: eleven bytes that stand for one decoded operation.
 //!
 //! Document 01, section 4 asks for one decoded form for each word and for
-//! registers by their true numbers. A field that a kind does not have is 0
-//! here, so that the form of a word is unique.
+//! registers by their true numbers; request 1 numbers the kinds. A field
+//! that a kind does not have is 0 here, so that the form of a word is
+//! unique.
 
 /// How many numbers the flat form has.
 pub const LENGTH: usize = 11;
@@ -11,12 +12,14 @@ pub const LENGTH: usize = 11;
 pub const MOVA_TO_TILE: u8 = 1;
 /// MOVAZ, tile slice to vector.
 pub const MOVAZ_FROM_TILE: u8 = 2;
-/// MOVA, array to vectors (four registers).
+/// MOVA, array to vectors (two or four registers).
 pub const MOVA_ARRAY: u8 = 3;
-/// MOVAZ, array to vectors (two registers).
+/// MOVAZ, array to vectors (two or four registers).
 pub const MOVAZ_ARRAY: u8 = 4;
 /// ST1B, store of an 8-bit tile slice.
 pub const STORE: u8 = 5;
+/// MOVA, tile slice to vector.
+pub const MOVA_FROM_TILE: u8 = 6;
 
 /// The place of each number among the eleven.
 ///
@@ -39,7 +42,7 @@ pub mod place {
 /// One operation, or any eleven bytes offered as one.
 #[derive(Clone, Copy, Debug, Default, PartialEq, Eq)]
 pub struct Flat {
-    /// Which of the five kinds; see the constants above.
+    /// Which of the six kinds; see the constants above.
     pub kind: u8,
     /// Bytes of an element: 1, 2, 4, 8 or 16; 0 for the array forms.
     pub element_bytes: u8,
@@ -51,7 +54,7 @@ pub struct Flat {
     pub offset: u8,
     /// Index register: 12 to 15, or 8 to 11 for the array forms.
     pub index: u8,
-    /// Governing predicate, 0 to 7.
+    /// Governing predicate, 0 to 7; 0 for the kinds without one.
     pub predicate: u8,
     /// First (or only) vector register.
     pub first_vector: u8,
@@ -59,7 +62,8 @@ pub struct Flat {
     pub base: u8,
     /// Offset register of a store; 31 reads as zero.
     pub offset_register: u8,
-    /// Number of vector registers: 1, 2 or 4; 0 for a store.
+    /// Number of vector registers: 1 for the tile moves, 2 or 4 for the
+    /// array forms, 0 for a store.
     pub vectors: u8,
 }
 

@@ -57,6 +57,28 @@ impl State {
     }
 
     /// Executes one instruction word, as [`execute`] does.
+    ///
+    /// ```
+    /// use sme_move::{encode, Direction, ElementSize, Operation, Settings, State};
+    ///
+    /// let settings = Settings::new(16, 1)?.with_streaming(true).with_za(true);
+    /// let mut state = State::new(settings)?;
+    /// state.za.fill(7);
+    /// state.predicate_mut(2).fill(0b0000_0001); // elements 0 and 2 of four
+    /// let row = Operation::MovaFromTile {
+    ///     size: ElementSize::Bits32,
+    ///     direction: Direction::Horizontal,
+    ///     tile: 1,
+    ///     offset: 3,
+    ///     index: 12,
+    ///     predicate: 2,
+    ///     vector: 5,
+    /// };
+    /// state.execute(settings, encode(row)?, &mut [])?;
+    /// assert_eq!(state.vector_mut(5), [7, 7, 7, 7, 0, 0, 0, 0, 7, 7, 7, 7, 0, 0, 0, 0]);
+    /// assert_eq!(state.za, [7; 256]);
+    /// # Ok::<(), sme_move::Refusal>(())
+    /// ```
     pub fn execute(
         &mut self,
         settings: Settings,

@@ -39,7 +39,7 @@ pub enum Operation {
         predicate: u8,
         vector: u8,
     },
-    /// Move a slice of a tile to a vector register, and zero it.
+    /// Move a slice of a tile to a vector register, and zero the slice.
     MovazFromTile {
         size: ElementSize,
         direction: Direction,
@@ -48,14 +48,14 @@ pub enum Operation {
         index: u8,
         vector: u8,
     },
-    /// Move vectors of the array to vector registers.
+    /// Move two or four vectors of the array to as many vector registers.
     MovaFromArray {
         registers: RegisterCount,
         offset: u8,
         index: u8,
         first: u8,
     },
-    /// Move vectors of the array to vector registers, and zero them.
+    /// Move two or four vectors of the array to as many vector registers, and zero them.
     MovazFromArray {
         registers: RegisterCount,
         offset: u8,
@@ -72,6 +72,16 @@ pub enum Operation {
         predicate: u8,
         base: u8,
         offset_register: u8,
+    },
+    /// Move the active elements of a slice of a tile to a vector register, whose other elements stay.
+    MovaFromTile {
+        size: ElementSize,
+        direction: Direction,
+        tile: u8,
+        offset: u8,
+        index: u8,
+        predicate: u8,
+        vector: u8,
     },
 }
 

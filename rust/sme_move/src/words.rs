@@ -7,9 +7,10 @@ use crate::operation::{Direction, ElementSize, Operation, RegisterCount};
 /// An operation as numbers: those that the C interface has, in its order. What a kind does not have is 0.
 #[derive(Clone, Copy, Debug, Default, PartialEq, Eq, Hash)]
 pub struct Fields {
-    /// 1 move to tile, 2 move and zero from tile, 3 move from array, 4 move and zero from array, 5 store.
+    /// 1 move to tile, 2 move and zero from tile, 3 move from array, 4 move and zero from array, 5 store,
+    /// 6 move from tile.
     pub kind: u8,
-    /// 1, 2, 4, 8 or 16.
+    /// 1, 2, 4, 8 or 16; 0 for the array kinds.
     pub element_bytes: u8,
     /// 0 horizontal, 1 vertical.
     pub direction: u8,
@@ -17,6 +18,7 @@ pub struct Fields {
     pub offset: u8,
     /// The number of the register that the slice or vector number is taken from.
     pub index: u8,
+    /// The governing predicate of a move to or from a tile, or of a store; a move and zero has none.
     pub predicate: u8,
     /// The first vector register.
     pub vector: u8,
@@ -24,7 +26,7 @@ pub struct Fields {
     pub base: u8,
     /// The offset register of a store; 31 reads as zero.
     pub offset_register: u8,
-    /// The number of vector registers: 1, 2 or 4, and 0 for a store.
+    /// The number of vector registers: 1 for a tile's slice, 2 or 4 for the array kinds, 0 for a store.
     pub registers: u8,
 }
 
@@ -122,6 +124,20 @@ impl From<Operation> for Fields {
                 offset_register,
                 ..tile_fields(5, size, direction, tile, offset, index)
             },
+            Operation::MovaFromTile {
+                size,
+                direction,
+                tile,
+                offset,
+                index,
+                predicate,
+                vector,
+            } => Fields {
+                predicate,
+                vector,
+                registers: 1,
+                ..tile_fields(6, size, direction, tile, offset, index)
+            },
         }
     }
 }
@@ -218,6 +234,15 @@ impl Fields {
                 predicate,
                 base,
                 offset_register,
+            },
+            6 => Operation::MovaFromTile {
+                size: size?,
+                direction,
+                tile,
+                offset,
+                index,
+                predicate,
+                vector,
             },
             _ => return None,
         })

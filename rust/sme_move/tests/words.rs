@@ -1,11 +1,19 @@
-//! Operations and words: the words of document 01's worked examples, both ways, and a sweep.
+//! Operations and words: the words of document 01's worked examples and of the rows that request 1
+//! added, both ways, and a sweep.
 
 use sme_move::Direction::{Horizontal, Vertical};
-use sme_move::ElementSize::{Bits128, Bits32, Bits64, Bits8};
+use sme_move::ElementSize::{Bits128, Bits16, Bits32, Bits64, Bits8};
 use sme_move::{decode, decode_fields, encode, Fields, Operation, Refusal, RegisterCount};
 
 /// A word, the lowest level that has it, its operation and its eleven numbers.
-fn known() -> Vec<(u32, u64, Operation, [u8; 11])> {
+type Known = (u32, u64, Operation, [u8; 11]);
+
+fn known() -> Vec<Known> {
+    [of_document(), of_tiles(), of_array()].concat()
+}
+
+/// Words of document 01's worked examples.
+fn of_document() -> Vec<Known> {
     vec![
         (
             0xC080ACA9,
@@ -88,6 +96,61 @@ fn known() -> Vec<(u32, u64, Operation, [u8; 11])> {
     ]
 }
 
+/// A move from a tile in every size: its word, and its numbers beside size, direction and kind.
+fn of_tiles() -> Vec<Known> {
+    let sizes = [
+        (0xC0025569, Bits8, Horizontal, [0, 11, 14, 5, 9]),
+        (0xC04299BE, Bits16, Vertical, [1, 5, 12, 6, 30]),
+        (0xC082AD25, Bits32, Vertical, [2, 1, 13, 3, 5]),
+        (0xC0C2FDBF, Bits64, Vertical, [6, 1, 15, 7, 31]),
+        (0xC0C305E2, Bits128, Horizontal, [15, 0, 12, 1, 2]),
+    ];
+    let known = |(word, size, direction, numbers)| {
+        let [tile, offset, index, predicate, vector] = numbers;
+        let operation = Operation::MovaFromTile {
+            size,
+            direction,
+            tile,
+            offset,
+            index,
+            predicate,
+            vector,
+        };
+        let (m, v) = (size.bytes(), direction.number());
+        let numbers = [6, m, v, tile, offset, index, predicate, vector, 0, 0, 1];
+        (word, 1, operation, numbers)
+    };
+    sizes.map(known).to_vec()
+}
+
+/// The moves from the array with the numbers of registers that document 01 has not.
+fn of_array() -> Vec<Known> {
+    vec![
+        (
+            0xC00668FE,
+            2,
+            Operation::MovaFromArray {
+                registers: RegisterCount::Two,
+                offset: 7,
+                index: 11,
+                first: 30,
+            },
+            [3, 0, 0, 0, 7, 11, 0, 30, 0, 0, 2],
+        ),
+        (
+            0xC0064EFC,
+            3,
+            Operation::MovazFromArray {
+                registers: RegisterCount::Four,
+                offset: 7,
+                index: 10,
+                first: 28,
+            },
+            [4, 0, 0, 0, 7, 10, 0, 28, 0, 0, 4],
+        ),
+    ]
+}
+
 #[test]
 fn known_words_decode_and_encode() {
     for (word, lowest, operation, numbers) in known() {
@@ -116,7 +179,7 @@ fn no_level_above_3_decodes() {
 #[test]
 fn numbers_of_no_operation_are_refused() {
     for (_, _, _, numbers) in known() {
-        for (place, wrong) in [(0, 0), (0, 9), (1, 3), (2, 2), (10, 3)] {
+        for (place, wrong) in [(0, 0), (0, 7), (0, 9), (1, 3), (2, 2), (10, 3)] {
             let mut other = numbers;
             other[place] = wrong;
             assert_eq!(Fields::from(other).operation(), None);
@@ -125,6 +188,28 @@ fn numbers_of_no_operation_are_refused() {
                 Err(Refusal::OutOfRange)
             );
         }
+    }
+}
+
+/// Each number of the added operations outside its range: the operation is named, and has no word.
+#[test]
+fn added_operations_have_ranges() {
+    let tiles = of_tiles().into_iter().flat_map(|(_, _, operation, _)| {
+        let numbers = Fields::from(operation);
+        let (tiles, offsets) = (numbers.element_bytes, 16 / numbers.element_bytes);
+        let outside = [(3, tiles), (4, offsets), (5, 11), (5, 16), (6, 8), (7, 32)];
+        outside.map(|(place, wrong)| (numbers, place, wrong))
+    });
+    let array = of_array().into_iter().flat_map(|(_, _, operation, _)| {
+        let numbers = Fields::from(operation);
+        let outside = [(4, 8), (5, 7), (5, 12), (7, numbers.vector + 1), (7, 32)];
+        outside.map(|(place, wrong)| (numbers, place, wrong))
+    });
+    for (numbers, place, wrong) in tiles.chain(array) {
+        let mut other: [u8; 11] = numbers.into();
+        other[place] = wrong;
+        let operation = Fields::from(other).operation().expect("an operation");
+        assert_eq!(encode(operation), Err(Refusal::OutOfRange), "{operation:?}");
     }
 }
 

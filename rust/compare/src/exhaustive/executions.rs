@@ -3,6 +3,7 @@
 use super::blocks::{Blocks, Draws, Sum, Workers};
 use crate::arguments::Arguments;
 use crate::counts::Counts;
+use crate::rows::Drawn;
 use crate::run::first_difference;
 use second::execute::Mistake;
 
@@ -26,6 +27,7 @@ pub fn compare(draws: Draws, mistake: Mistake, workers: &Workers) -> Result<Coun
         let arguments = Arguments {
             seed: draws.block_seed(block),
             count: range.end - range.start,
+            drawn: Drawn::All,
             mistake,
         };
         match first_difference(&arguments, |case, outcome| sum.add(case, outcome)) {

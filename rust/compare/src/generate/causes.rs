@@ -1,10 +1,14 @@
 //! Which causes of refusal a case is to have.
 
+use crate::rows::{Drawn, STORE};
 use second::inputs::random::Random;
 
 /// How many of a hundred cases are aimed at each answer. More than half are
 /// to be done, as only those move anything.
 const SHARES: [usize; 8] = [60, 6, 6, 8, 4, 4, 4, 8];
+
+/// The lowest answer that only a store is given.
+const STORES_ONLY: usize = 6;
 
 /// The causes by their numbers; no cause is no refusal.
 pub struct Causes {
@@ -12,11 +16,15 @@ pub struct Causes {
 }
 
 impl Causes {
-    /// Draws the answer to aim at. A refusal often gets causes of higher
-    /// numbers too, which must not show (document 01, section 6: the lowest
-    /// number that applies is given).
-    pub fn draw(random: &mut Random) -> Causes {
-        let lowest = answer(random);
+    /// Draws the answer to aim at, which words of the rows can be given. A
+    /// refusal often gets causes of higher numbers too, which must not show
+    /// (document 01, section 6: the lowest number that applies is given).
+    pub fn draw(random: &mut Random, drawn: Drawn) -> Causes {
+        let lowest = if drawn.has(STORE) {
+            answer(random, &SHARES)
+        } else {
+            answer(random, &SHARES[..STORES_ONLY])
+        };
         let mut present = [false; 8];
         if lowest > 0 {
             for own in &mut present[lowest + 1..] {
@@ -34,16 +42,16 @@ impl Causes {
     /// Whether the lowest cause is one that only a store has.
     pub fn needs_store(&self) -> bool {
         let lowest = self.present.iter().position(|own| *own);
-        lowest.is_some_and(|number| number >= 6)
+        lowest.is_some_and(|number| number >= STORES_ONLY)
     }
 }
 
 /// One of the answers, by its share.
-fn answer(random: &mut Random) -> usize {
-    let mut drawn = random.below(SHARES.iter().sum());
+fn answer(random: &mut Random, shares: &[usize]) -> usize {
+    let mut drawn = random.below(shares.iter().sum());
     let mut answer = 0;
-    while drawn >= SHARES[answer] {
-        drawn -= SHARES[answer];
+    while drawn >= shares[answer] {
+        drawn -= shares[answer];
         answer += 1;
     }
     answer

@@ -13,14 +13,16 @@ pub mod settings;
 mod words;
 
 use crate::case::Case;
+use crate::rows::Drawn;
 use causes::Causes;
 use second::flat::{self, Flat};
 use second::inputs::random::Random;
 
-/// Fills `case` anew.
-pub fn generate(random: &mut Random, case: &mut Case) {
-    let causes = Causes::draw(random);
-    let row = words::row(random, &causes);
+/// Fills `case` anew, with a word of one of the rows that are drawn from or,
+/// where it is to be undecodable, one that may fit no row.
+pub fn generate(random: &mut Random, case: &mut Case, drawn: Drawn) {
+    let causes = Causes::draw(random, drawn);
+    let row = words::row(random, &causes, drawn);
     let bits = words::fields(random, row, &causes);
     let operation = Flat::from_bytes(row.numbers(&bits));
     case.word = row.word(&bits);

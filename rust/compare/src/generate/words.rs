@@ -2,22 +2,23 @@
 
 use super::causes::Causes;
 use crate::case::Case;
+use crate::rows::{encoding, Drawn, OF_DOCUMENT, STORE, TABLE};
 use second::flat::place;
 use second::inputs::random::Random;
-use second::inputs::rows::{Row, ROWS};
+use second::inputs::rows::Row;
 use second::inputs::words::NEIGHBOURS;
 
-/// The rows of the table in document 01, section 4.
-static TABLE: [Row; 13] = ROWS;
-/// The place of the store among them.
-const STORE: usize = 12;
-
-/// A row; the store has three shares, as it has the most to go wrong.
-pub fn row(random: &mut Random, causes: &Causes) -> &'static Row {
+/// A row. Each has one share, but the store three, as it has the most to go
+/// wrong: its own place, and the two after the last row.
+pub fn row(random: &mut Random, causes: &Causes, drawn: Drawn) -> &'static Row {
     if causes.needs_store() {
         return &TABLE[STORE];
     }
-    &TABLE[random.below(STORE + 3).min(STORE)]
+    let place = match drawn {
+        Drawn::All => random.below(TABLE.len() + 2),
+        Drawn::Added => OF_DOCUMENT + random.below(TABLE.len() - OF_DOCUMENT),
+    };
+    TABLE.get(place).unwrap_or(&TABLE[STORE])
 }
 
 /// Field bits for the row. Number 31 is drawn more often for base and
@@ -56,8 +57,7 @@ fn without_encoding(random: &mut Random, word: u32) -> u32 {
             3 => random.word() & 0x00FF_FFFF | 0xE000_0000,
             _ => word ^ 1 << random.below(32),
         };
-        let fits = |row: &Row| (candidate ^ row.base) & row.fixed() == 0;
-        if !TABLE.iter().any(fits) {
+        if encoding(candidate).is_none() {
             return candidate;
         }
     }

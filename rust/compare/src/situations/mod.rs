@@ -1,10 +1,12 @@
 //! Situations that the table does not show but that a run must contain.
 
 mod buffers;
+mod moves;
 mod settings;
 mod slices;
 mod stores;
 
+use crate::rows::{Drawn, STORE};
 use crate::view::View;
 use std::fmt::{self, Display, Formatter};
 
@@ -15,23 +17,25 @@ struct Situation {
     count: u64,
 }
 
-/// All situations.
+/// All situations that are to be met.
 pub struct Situations {
     list: Vec<Situation>,
 }
 
-impl Default for Situations {
-    fn default() -> Situations {
+impl Situations {
+    /// The situations of cases that are drawn from these rows.
+    pub fn new(drawn: Drawn) -> Situations {
         let mut all = Situations { list: Vec::new() };
-        slices::name(&mut all);
-        stores::name(&mut all);
+        slices::name(&mut all, drawn);
+        moves::name(&mut all, drawn);
+        if drawn.has(STORE) {
+            stores::name(&mut all);
+        }
         buffers::name(&mut all);
         settings::name(&mut all);
         all
     }
-}
 
-impl Situations {
     /// Names a situation that is to be met.
     fn name(&mut self, name: impl Into<String>, holds: impl Fn(&View) -> bool + Send + 'static) {
         self.list.push(Situation {
@@ -50,7 +54,8 @@ impl Situations {
         }
     }
 
-    /// Takes the counts of other cases in; the list is the same for all.
+    /// Takes the counts of other cases in, which are drawn from the same rows
+    /// and so have the same list.
     pub fn merge(&mut self, other: Situations) {
         for (own, other) in self.list.iter_mut().zip(&other.list) {
             own.count += other.count;

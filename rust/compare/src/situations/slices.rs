@@ -1,22 +1,25 @@
 //! Situations of the slice number and the governing predicate.
 
 use super::Situations;
+use crate::rows::Drawn;
 use crate::view::View;
 use second::flat;
 
-pub fn name(all: &mut Situations) {
-    name_directions(all);
+pub fn name(all: &mut Situations, drawn: Drawn) {
+    name_directions(all, drawn);
     name_indexes(all);
     name_predicates(all);
 }
 
-fn name_directions(all: &mut Situations) {
-    let kinds = [
-        ("move to tile", flat::MOVA_TO_TILE),
-        ("move and zero from tile", flat::MOVAZ_FROM_TILE),
-        ("store of bytes", flat::STORE),
+fn name_directions(all: &mut Situations, drawn: Drawn) {
+    let mut kinds = vec![
+        ("move to tile", flat::MOVA_TO_TILE, 1),
+        ("move and zero from tile", flat::MOVAZ_FROM_TILE, 1),
+        ("store of bytes", flat::STORE, 0),
+        ("move from tile", flat::MOVA_FROM_TILE, 1),
     ];
-    for (name, kind) in kinds {
+    kinds.retain(|&(_, kind, vectors)| drawn.has_kind(kind, vectors));
+    for (name, kind, _) in kinds {
         for (direction, way) in [(0, "horizontal"), (1, "vertical")] {
             all.name(format!("done, {name}, {way}"), move |v| {
                 let own = |own: flat::Flat| own.kind == kind && own.direction == direction;

@@ -1,4 +1,5 @@
-//! Deliberate mistakes: those that document 01, section 8 warns of.
+//! Deliberate mistakes: those that document 01, section 8 warns of, and
+//! three that the words of request 1 invite.
 //!
 //! Only the comparison runs them, to show that it would notice each.
 
@@ -23,11 +24,18 @@ pub enum Mistake {
     /// wraps there, nothing would go wrong: every modulus of section 5 is a
     /// power of two and so divides 2^32.)
     IndexAddTrapsAt32Bits,
+    /// MOVA from tile sets the inactive elements of its register to zero.
+    InactiveZeroed,
+    /// The array forms of four registers have the stride of those of two,
+    /// B/2, and count on from the front at the end of ZA.
+    FourByStrideOfTwo,
+    /// A move from a tile is taken as MOVA whatever bit 9 is.
+    BitNineIgnored,
 }
 
 impl Mistake {
     /// Every mistake, with the name that the command line has for it.
-    pub const NAMED: [(&'static str, Mistake); 7] = [
+    pub const NAMED: [(&'static str, Mistake); 10] = [
         ("TileAsBlock", Mistake::TileAsBlock),
         ("SliceModuloVectorLength", Mistake::SliceModuloVectorLength),
         ("BaseThirtyOneAsZero", Mistake::BaseThirtyOneAsZero),
@@ -38,11 +46,25 @@ impl Mistake {
         ("PredicateBitPerElement", Mistake::PredicateBitPerElement),
         ("StoreBeforeFault", Mistake::StoreBeforeFault),
         ("IndexAddTrapsAt32Bits", Mistake::IndexAddTrapsAt32Bits),
+        ("InactiveZeroed", Mistake::InactiveZeroed),
+        ("FourByStrideOfTwo", Mistake::FourByStrideOfTwo),
+        ("BitNineIgnored", Mistake::BitNineIgnored),
     ];
 
     /// The mistake of that name.
     pub fn named(name: &str) -> Option<Mistake> {
         let mut named = Mistake::NAMED.iter();
         named.find(|(own, _)| *own == name).map(|&(_, found)| found)
+    }
+
+    /// The word that decoding is given: the word itself, but for the mistake
+    /// about bit 9. The moves from a tile have C0 in bits 31:24 and 00001 in
+    /// bits 21:17.
+    pub fn word_seen(self, word: u32) -> u32 {
+        let from_tile = word & 0xFF3E_0000 == 0xC002_0000;
+        if self == Mistake::BitNineIgnored && from_tile {
+            return word & !0x200;
+        }
+        word
     }
 }

@@ -1,4 +1,5 @@
-//! Execution of one word (document 01, sections 2, 3, 5 and 6).
+//! Execution of one word (document 01, sections 2, 3, 5 and 6, with the
+//! pages of the instructions that request 1 added).
 //!
 //! Written element by element in the manner of Arm's pseudocode: a slice is
 //! read into a temporary vector and written back from one. Every check
@@ -71,15 +72,16 @@ pub fn execute_with(
 fn run(mistake: Mistake, settings: &Settings, word: u32, buffers: Buffers) -> Result<(), Refusal> {
     let level = checks::settings(settings)?;
     checks::lengths(settings, &buffers)?;
-    let operation = decode(word, level)?;
+    let operation = decode(mistake.word_seen(word), level)?;
     checks::switches(settings)?;
     let mut state = State::new(mistake, settings, buffers);
     match operation.kind {
         flat::MOVA_TO_TILE => moves::vector_to_tile(&mut state, &operation),
-        flat::MOVAZ_FROM_TILE => moves::tile_to_vector(&mut state, &operation),
+        flat::MOVA_FROM_TILE => moves::tile_to_vector(&mut state, &operation),
+        flat::MOVAZ_FROM_TILE => moves::tile_to_vector_zeroing(&mut state, &operation),
         flat::MOVA_ARRAY => moves::array_to_vectors(&mut state, &operation, false),
         flat::MOVAZ_ARRAY => moves::array_to_vectors(&mut state, &operation, true),
-        // Decoding gives no sixth kind.
+        // Decoding gives no seventh kind.
         _ => store::store(&mut state, &operation),
     }
 }

@@ -1,7 +1,9 @@
-//! The moves between ZA and the vector registers (document 01, section 5).
+//! The moves between ZA and the vector registers (document 01, section 5,
+//! as request 1 amends it).
 
 use super::state::State;
 use super::vector::Vector;
+use super::Mistake;
 use crate::flat::Flat;
 use crate::refusal::Refusal;
 
@@ -9,21 +11,29 @@ use crate::refusal::Refusal;
 /// elements, inactive ones keep what they had.
 pub fn vector_to_tile(state: &mut State, operation: &Flat) -> Result<(), Refusal> {
     let slice = state.slice(operation)?;
-    let m = slice.element_bytes;
     let operand = state.z(usize::from(operation.first_vector));
-    let mut result = state.za_slice(&slice);
-    for e in 0..state.elements(m) {
-        let element = operand.element(e, m);
-        if state.active(operation.predicate, e, m) {
-            result.set_element(e, m, element);
-        }
-    }
+    let result = merged(state, operation, &operand, state.za_slice(&slice));
     state.set_za_slice(&slice, &result);
     Ok(())
 }
 
-/// MOVAZ from tile: the register takes the slice, then the slice is zero.
+/// MOVA from tile: active elements of the register take the slice's
+/// elements, inactive ones keep what they had; the slice stays.
 pub fn tile_to_vector(state: &mut State, operation: &Flat) -> Result<(), Refusal> {
+    let slice = state.slice(operation)?;
+    let operand = state.za_slice(&slice);
+    let register = usize::from(operation.first_vector);
+    let kept = match state.mistake {
+        Mistake::InactiveZeroed => Vector::ZERO,
+        _ => state.z(register),
+    };
+    let result = merged(state, operation, &operand, kept);
+    state.set_z(register, &result);
+    Ok(())
+}
+
+/// MOVAZ from tile: the register takes the slice, then the slice is zero.
+pub fn tile_to_vector_zeroing(state: &mut State, operation: &Flat) -> Result<(), Refusal> {
     let slice = state.slice(operation)?;
     let operand = state.za_slice(&slice);
     state.set_za_slice(&slice, &Vector::ZERO);
@@ -31,11 +41,26 @@ pub fn tile_to_vector(state: &mut State, operation: &Flat) -> Result<(), Refusal
     Ok(())
 }
 
-/// The array forms: a vector group is one vector out of each part of ZA,
-/// and there are as many parts as registers.
+/// The elements of `source` that the governing predicate makes active, and
+/// the elements of `kept` at the other places.
+fn merged(state: &State, operation: &Flat, source: &Vector, kept: Vector) -> Vector {
+    let m = usize::from(operation.element_bytes);
+    let mut result = kept;
+    for e in 0..state.elements(m) {
+        let element = source.element(e, m);
+        if state.active(operation.predicate, e, m) {
+            result.set_element(e, m, element);
+        }
+    }
+    result
+}
+
+/// The array forms, two or four registers, with or without zeroing: a
+/// vector group is one vector out of each part of ZA, and there are as many
+/// parts as registers.
 pub fn array_to_vectors(state: &mut State, operation: &Flat, zeroing: bool) -> Result<(), Refusal> {
     let registers = usize::from(operation.vectors);
-    let stride = state.vector_bytes / registers;
+    let stride = stride(state, registers);
     let mut vector = (state.index_sum(operation)? % stride as u64) as usize;
     for register in 0..registers {
         let result = state.za_vector(vector);
@@ -43,7 +68,17 @@ pub fn array_to_vectors(state: &mut State, operation: &Flat, zeroing: bool) -> R
             state.set_za_vector(vector, &Vector::ZERO);
         }
         state.set_z(usize::from(operation.first_vector) + register, &result);
-        vector += stride;
+        // Only a mistaken stride comes to the end of ZA before the last
+        // register; it begins again at the front.
+        vector = (vector + stride) % state.vector_bytes;
     }
     Ok(())
+}
+
+/// How far the vectors of a group are apart: B/r with r registers.
+fn stride(state: &State, registers: usize) -> usize {
+    match state.mistake {
+        Mistake::FourByStrideOfTwo => state.vector_bytes / 2,
+        _ => state.vector_bytes / registers,
+    }
 }

@@ -1,10 +1,11 @@
-//! The words of document 01, section 7, and what it says of them.
+//! The words of document 01, section 7, and what it says of them, and
+//! words of our own for the rows that request 1 added.
 
 use crate::flat::{self, LENGTH};
 
 /// Words that decode, the least level at which they do, and their eleven
 /// numbers.
-pub const DECODING: [(u32, u8, [u8; LENGTH]); 9] = [
+pub const DECODING: [(u32, u8, [u8; LENGTH]); 18] = [
     // Example 1.
     (
         0xC000_0000,
@@ -55,20 +56,91 @@ pub const DECODING: [(u32, u8, [u8; LENGTH]); 9] = [
     ),
     // Example 10: base X1, offset register X2.
     (0xE022_0020, 1, [flat::STORE, 1, 0, 0, 0, 12, 0, 0, 1, 2, 0]),
+    // Added: MOVA from the byte tile, example 5 with bit 9 clear.
+    (
+        0xC002_0000,
+        1,
+        [flat::MOVA_FROM_TILE, 1, 0, 0, 0, 12, 0, 0, 0, 0, 1],
+    ),
+    // Added: horizontal, W14, P5, offset 11, Z9.
+    (
+        0xC002_5569,
+        1,
+        [flat::MOVA_FROM_TILE, 1, 0, 0, 11, 14, 5, 9, 0, 0, 1],
+    ),
+    // Added: vertical, W12, P6, tile 1, offset 5, Z30.
+    (
+        0xC042_99BE,
+        1,
+        [flat::MOVA_FROM_TILE, 2, 1, 1, 5, 12, 6, 30, 0, 0, 1],
+    ),
+    // Added: vertical, W13, P3, tile 2, offset 1, Z5, as in example 2.
+    (
+        0xC082_AD25,
+        1,
+        [flat::MOVA_FROM_TILE, 4, 1, 2, 1, 13, 3, 5, 0, 0, 1],
+    ),
+    // Added: example 6 with bit 9 clear and P7.
+    (
+        0xC0C2_FDBF,
+        1,
+        [flat::MOVA_FROM_TILE, 8, 1, 6, 1, 15, 7, 31, 0, 0, 1],
+    ),
+    // Added: tile 15 of the 16-byte tiles, P1, Z2.
+    (
+        0xC0C3_05E2,
+        1,
+        [flat::MOVA_FROM_TILE, 16, 0, 15, 0, 12, 1, 2, 0, 0, 1],
+    ),
+    // Added: W11, offset 7, Z30 and Z31.
+    (
+        0xC006_68FE,
+        2,
+        [flat::MOVA_ARRAY, 0, 0, 0, 7, 11, 0, 30, 0, 0, 2],
+    ),
+    // Added: W8, offset 3, Z10 and Z11, as in example 8.
+    (
+        0xC006_086A,
+        2,
+        [flat::MOVA_ARRAY, 0, 0, 0, 3, 8, 0, 10, 0, 0, 2],
+    ),
+    // Added: W10, offset 7, Z28 to Z31, as in example 7.
+    (
+        0xC006_4EFC,
+        3,
+        [flat::MOVAZ_ARRAY, 0, 0, 0, 7, 10, 0, 28, 0, 0, 4],
+    ),
 ];
 
-/// Words that decode at no level (examples 3 and 8).
-pub const UNDECODABLE: [u32; 3] = [0xC000_0010, 0xC041_0000, 0xC006_0A01];
+/// Words that decode at no level: those of examples 3 and 8, then added
+/// ones: Q with a small size, MOVAZ from tile with a predicate, and first
+/// registers that are not multiples of 2 and of 4.
+pub const UNDECODABLE: [u32; 8] = [
+    0xC000_0010,
+    0xC041_0000,
+    0xC006_0A01,
+    0xC003_0000,
+    0xC002_0600,
+    0xC006_0801,
+    0xC006_0E01,
+    0xC006_0E02,
+];
 
 /// Eleven numbers that encoding refuses (example 11): a byte move with
 /// offset 16, a byte tile 1, and four registers from Z2. What is said of a
-/// byte move is taken of both tile moves and of the store.
-pub const UNENCODABLE: [[u8; LENGTH]; 7] = [
+/// byte move is taken of every tile move and of the store, what is said of
+/// four registers of both array kinds, and of two registers from Z1.
+pub const UNENCODABLE: [[u8; LENGTH]; 12] = [
     [flat::MOVA_TO_TILE, 1, 0, 0, 16, 12, 0, 0, 0, 0, 1],
     [flat::MOVAZ_FROM_TILE, 1, 0, 0, 16, 12, 0, 0, 0, 0, 1],
+    [flat::MOVA_FROM_TILE, 1, 0, 0, 16, 12, 0, 0, 0, 0, 1],
     [flat::STORE, 1, 0, 0, 16, 12, 0, 0, 0, 0, 0],
     [flat::MOVA_TO_TILE, 1, 0, 1, 0, 12, 0, 0, 0, 0, 1],
     [flat::MOVAZ_FROM_TILE, 1, 0, 1, 0, 12, 0, 0, 0, 0, 1],
+    [flat::MOVA_FROM_TILE, 1, 0, 1, 0, 12, 0, 0, 0, 0, 1],
     [flat::STORE, 1, 0, 1, 0, 12, 0, 0, 0, 0, 0],
     [flat::MOVA_ARRAY, 0, 0, 0, 0, 8, 0, 2, 0, 0, 4],
+    [flat::MOVAZ_ARRAY, 0, 0, 0, 0, 8, 0, 2, 0, 0, 4],
+    [flat::MOVA_ARRAY, 0, 0, 0, 0, 8, 0, 1, 0, 0, 2],
+    [flat::MOVAZ_ARRAY, 0, 0, 0, 0, 8, 0, 1, 0, 0, 2],
 ];

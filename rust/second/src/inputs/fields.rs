@@ -16,7 +16,8 @@ const KINDS: [u8; 10] = [0, 1, 2, 3, 4, 5, 6, 7, 8, 255];
 const ELEMENT_BYTES: [u8; 10] = [0, 1, 2, 3, 4, 5, 8, 16, 32, 255];
 /// Directions, known and unknown.
 const DIRECTIONS: [u8; 5] = [0, 1, 2, 3, 255];
-/// Numbers of vector registers; each kind allows one of them.
+/// Numbers of vector registers; the array kinds allow two of them, every
+/// other kind one.
 const VECTORS: [u8; 7] = [0, 1, 2, 3, 4, 5, 255];
 /// What to put where a kind has no field.
 const ABSENT: [u8; 2] = [1, 255];
@@ -41,8 +42,8 @@ pub fn list() -> Vec<Numbers> {
     fields.into_items()
 }
 
-/// The words of section 7 of document 01 that decode, and the refusals of
-/// its example 11.
+/// The words of section 7 of document 01 that decode, the refusals of its
+/// example 11, and the like for the added rows.
 fn add_examples(fields: &mut Fields) {
     for (_, _, numbers) in examples::DECODING {
         fields.add(numbers);
@@ -122,7 +123,7 @@ fn add_values(fields: &mut Fields, start: Numbers, place: usize, values: &[u8]) 
 /// Random rows in range, half of them again with one byte replaced, and
 /// bytes without any choice.
 fn add_random(fields: &mut Fields, random: &mut Random) {
-    for turn in 0..2000 {
+    for turn in 0..150 * ROWS.len() {
         let row = &ROWS[random.below(ROWS.len())];
         let mut numbers = row.numbers(&row.random(random));
         fields.add(numbers);

@@ -6,6 +6,7 @@
 pub mod examples;
 pub mod fields;
 pub mod random;
+mod row;
 pub mod rows;
 pub mod unique;
 pub mod words;

@@ -1,121 +1,12 @@
-//! The thirteen rows of the table in document 01, section 4, as data.
+//! The rows of the table of words, as data: those of document 01, section
+//! 4, and those that request 1 added.
 //!
-//! Only the test inputs and the unit tests use it; decoding and encoding
-//! are written out by hand and know nothing of it.
+//! Only the test inputs and the unit tests use them; decoding and encoding
+//! are written out by hand and know nothing of them.
 
-use super::random::Random;
-use crate::flat::{self, place, LENGTH};
+pub use super::row::{Field, Row, PATTERNS};
 
-/// A field of a row: where it stands in the word, and which of the eleven
-/// numbers it gives (`first` plus `scale` times the bits).
-pub struct Field {
-    pub place: usize,
-    pub high: u32,
-    pub low: u32,
-    pub first: u8,
-    pub scale: u8,
-}
-
-impl Field {
-    /// The highest value of the bits; the lowest is 0.
-    pub fn top(&self) -> u32 {
-        (1 << (self.high - self.low + 1)) - 1
-    }
-
-    /// The number that the bits stand for.
-    pub fn number(&self, bits: u32) -> u8 {
-        self.first + self.scale * bits as u8
-    }
-}
-
-/// A row: base word, least level, the numbers that are the same for all its
-/// words, and its fields.
-pub struct Row {
-    pub base: u32,
-    pub level: u8,
-    pub kind: u8,
-    pub element_bytes: u8,
-    pub vectors: u8,
-    pub fields: &'static [Field],
-}
-
-impl Row {
-    /// The word with these field bits.
-    pub fn word(&self, bits: &[u32]) -> u32 {
-        let fields = self.fields.iter().zip(bits);
-        fields.fold(self.base, |word, (field, bits)| word | bits << field.low)
-    }
-
-    /// The eleven numbers with these field bits.
-    pub fn numbers(&self, bits: &[u32]) -> [u8; LENGTH] {
-        let mut numbers = [0; LENGTH];
-        numbers[place::KIND] = self.kind;
-        numbers[place::ELEMENT_BYTES] = self.element_bytes;
-        numbers[place::VECTORS] = self.vectors;
-        for (field, &bits) in self.fields.iter().zip(bits) {
-            numbers[field.place] = field.number(bits);
-        }
-        numbers
-    }
-
-    /// The bits of a word that no field covers.
-    pub fn fixed(&self) -> u32 {
-        let covered = self.fields.iter().map(|field| field.top() << field.low);
-        !covered.fold(0, |all, one| all | one)
-    }
-
-    /// Whether the row has a field for that one of the eleven numbers.
-    pub fn has(&self, place: usize) -> bool {
-        self.fields.iter().any(|field| field.place == place)
-    }
-
-    /// All fields at 0.
-    pub fn lowest(&self) -> Vec<u32> {
-        vec![0; self.fields.len()]
-    }
-
-    /// All fields at their highest.
-    pub fn highest(&self) -> Vec<u32> {
-        self.fields.iter().map(Field::top).collect()
-    }
-
-    /// All fields cut out of one pattern, neither all low nor all high.
-    pub fn mixed(&self, pattern: u32) -> Vec<u32> {
-        self.fields.iter().map(|f| pattern & f.top()).collect()
-    }
-
-    /// Random field bits.
-    pub fn random(&self, random: &mut Random) -> Vec<u32> {
-        let pick = |field: &Field| random.below(field.top() as usize + 1) as u32;
-        self.fields.iter().map(pick).collect()
-    }
-
-    /// Every combination of fields at their lowest and highest.
-    pub fn corners(&self) -> Vec<Vec<u32>> {
-        let corner = |chosen: u32| {
-            let at_end = |(at, field): (usize, &Field)| (chosen >> at & 1) * field.top();
-            self.fields.iter().enumerate().map(at_end).collect()
-        };
-        (0..1 << self.fields.len()).map(corner).collect()
-    }
-
-    /// Every value of each single field, the others as in `rest`.
-    pub fn sweeps(&self, rest: &[u32]) -> Vec<Vec<u32>> {
-        let mut all = Vec::new();
-        for (at, field) in self.fields.iter().enumerate() {
-            for value in 0..=field.top() {
-                let mut bits = rest.to_vec();
-                bits[at] = value;
-                all.push(bits);
-            }
-        }
-        all
-    }
-}
-
-/// Two patterns for `Row::mixed`, each the complement of the other in the
-/// five bits of the widest field.
-pub const PATTERNS: [u32; 2] = [0b10110, 0b01001];
+use crate::flat::{self, place};
 
 const fn field(place: usize, high: u32, low: u32) -> Field {
     numbered(place, high, low, 0, 1)
@@ -146,69 +37,85 @@ const fn offset(high: u32, low: u32) -> Field {
     field(place::OFFSET, high, low)
 }
 
-const fn to_tile(element_bytes: u8, base: u32, fields: &'static [Field]) -> Row {
+/// A row of the moves between one vector register and a tile.
+const fn tile_move(kind: u8, level: u8, m: u8, base: u32, fields: &'static [Field]) -> Row {
     Row {
         base,
-        level: 1,
-        kind: flat::MOVA_TO_TILE,
-        element_bytes,
+        level,
+        kind,
+        element_bytes: m,
         vectors: 1,
         fields,
     }
 }
 
-const fn from_tile(element_bytes: u8, base: u32, fields: &'static [Field]) -> Row {
+const fn to_tile(m: u8, base: u32, fields: &'static [Field]) -> Row {
+    tile_move(flat::MOVA_TO_TILE, 1, m, base, fields)
+}
+
+const fn from_tile(m: u8, base: u32, fields: &'static [Field]) -> Row {
+    tile_move(flat::MOVA_FROM_TILE, 1, m, base, fields)
+}
+
+const fn zeroing_from_tile(m: u8, base: u32, fields: &'static [Field]) -> Row {
+    tile_move(flat::MOVAZ_FROM_TILE, 3, m, base, fields)
+}
+
+/// The fields of the array forms. The first register is the number of
+/// registers times Zd.
+const OF_TWO: &[Field] = &[RV, offset(7, 5), numbered(place::FIRST_VECTOR, 4, 1, 0, 2)];
+const OF_FOUR: &[Field] = &[RV, offset(7, 5), numbered(place::FIRST_VECTOR, 4, 2, 0, 4)];
+
+/// A row of the array forms.
+const fn array(kind: u8, level: u8, vectors: u8, base: u32, fields: &'static [Field]) -> Row {
     Row {
         base,
-        level: 3,
-        kind: flat::MOVAZ_FROM_TILE,
-        element_bytes,
-        vectors: 1,
+        level,
+        kind,
+        element_bytes: 0,
+        vectors,
         fields,
     }
 }
 
-/// The rows, in the order of the table.
-pub const ROWS: [Row; 13] = [
+/// ST1B, the only row of its kind.
+const STORE: Row = Row {
+    base: 0xE020_0000,
+    level: 1,
+    kind: flat::STORE,
+    element_bytes: 1,
+    vectors: 0,
+    fields: &[
+        field(place::OFFSET_REGISTER, 20, 16),
+        V,
+        RS,
+        PG,
+        field(place::BASE, 9, 5),
+        offset(3, 0),
+    ],
+};
+
+/// The rows, in the order of the table: document 01's first, then those of
+/// request 1.
+pub const ROWS: [Row; 20] = [
     to_tile(1, 0xC000_0000, &[V, RS, PG, ZN, offset(3, 0)]),
     to_tile(2, 0xC040_0000, &[V, RS, PG, ZN, tile(3, 3), offset(2, 0)]),
     to_tile(4, 0xC080_0000, &[V, RS, PG, ZN, tile(3, 2), offset(1, 0)]),
     to_tile(8, 0xC0C0_0000, &[V, RS, PG, ZN, tile(3, 1), offset(0, 0)]),
     to_tile(16, 0xC0C1_0000, &[V, RS, PG, ZN, tile(3, 0)]),
-    from_tile(1, 0xC002_0200, &[V, RS, offset(8, 5), ZD]),
-    from_tile(2, 0xC042_0200, &[V, RS, tile(8, 8), offset(7, 5), ZD]),
-    from_tile(4, 0xC082_0200, &[V, RS, tile(8, 7), offset(6, 5), ZD]),
-    from_tile(8, 0xC0C2_0200, &[V, RS, tile(8, 6), offset(5, 5), ZD]),
-    from_tile(16, 0xC0C3_0200, &[V, RS, tile(8, 5), ZD]),
-    Row {
-        base: 0xC006_0C00,
-        level: 2,
-        kind: flat::MOVA_ARRAY,
-        element_bytes: 0,
-        vectors: 4,
-        fields: &[RV, offset(7, 5), numbered(place::FIRST_VECTOR, 4, 2, 0, 4)],
-    },
-    Row {
-        base: 0xC006_0A00,
-        level: 3,
-        kind: flat::MOVAZ_ARRAY,
-        element_bytes: 0,
-        vectors: 2,
-        fields: &[RV, offset(7, 5), numbered(place::FIRST_VECTOR, 4, 1, 0, 2)],
-    },
-    Row {
-        base: 0xE020_0000,
-        level: 1,
-        kind: flat::STORE,
-        element_bytes: 1,
-        vectors: 0,
-        fields: &[
-            field(place::OFFSET_REGISTER, 20, 16),
-            V,
-            RS,
-            PG,
-            field(place::BASE, 9, 5),
-            offset(3, 0),
-        ],
-    },
+    zeroing_from_tile(1, 0xC002_0200, &[V, RS, offset(8, 5), ZD]),
+    zeroing_from_tile(2, 0xC042_0200, &[V, RS, tile(8, 8), offset(7, 5), ZD]),
+    zeroing_from_tile(4, 0xC082_0200, &[V, RS, tile(8, 7), offset(6, 5), ZD]),
+    zeroing_from_tile(8, 0xC0C2_0200, &[V, RS, tile(8, 6), offset(5, 5), ZD]),
+    zeroing_from_tile(16, 0xC0C3_0200, &[V, RS, tile(8, 5), ZD]),
+    array(flat::MOVA_ARRAY, 2, 4, 0xC006_0C00, OF_FOUR),
+    array(flat::MOVAZ_ARRAY, 3, 2, 0xC006_0A00, OF_TWO),
+    STORE,
+    from_tile(1, 0xC002_0000, &[V, RS, PG, offset(8, 5), ZD]),
+    from_tile(2, 0xC042_0000, &[V, RS, PG, tile(8, 8), offset(7, 5), ZD]),
+    from_tile(4, 0xC082_0000, &[V, RS, PG, tile(8, 7), offset(6, 5), ZD]),
+    from_tile(8, 0xC0C2_0000, &[V, RS, PG, tile(8, 6), offset(5, 5), ZD]),
+    from_tile(16, 0xC0C3_0000, &[V, RS, PG, tile(8, 5), ZD]),
+    array(flat::MOVA_ARRAY, 2, 2, 0xC006_0800, OF_TWO),
+    array(flat::MOVAZ_ARRAY, 3, 4, 0xC006_0E00, OF_FOUR),
 ];

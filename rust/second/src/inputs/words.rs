@@ -10,7 +10,7 @@ const LEVELS: [u8; 6] = [0, 1, 2, 3, 4, 255];
 
 /// Words close to the table that are other instructions or unallocated.
 /// The comments name Arm's instruction where there is one.
-pub const NEIGHBOURS: [u32; 68] = [
+pub const NEIGHBOURS: [u32; 87] = [
     // Vectors to tile and vectors to array, the other direction.
     0xC004_0000,
     0xC004_0400,
@@ -27,40 +27,60 @@ pub const NEIGHBOURS: [u32; 68] = [
     0xC003_0200,
     0xC043_0200,
     0xC083_0200,
-    // Tile to vector without zeroing (bit 9 is 0), with a predicate, and
-    // with bits between the two forms.
-    0xC002_0000,
-    0xC002_1C1F,
-    0xC0C2_0000,
-    0xC0C3_0000,
+    0xC003_1C00,
+    0xC043_FDFF,
+    0xC083_FDFF,
+    // Tile to vector with zeroing (bit 9 is 1) and a predicate.
     0xC002_0600,
     0xC002_0A00,
     0xC002_1200,
     0xC002_1E00,
+    0xC042_0600,
+    0xC082_0A00,
+    0xC0C2_1200,
+    0xC0C3_1E00,
+    0xC0C3_FFFF,
+    // Tile to vector with one of the bits 21:19 set.
+    0xC00A_0000,
+    0xC012_0000,
+    0xC022_0000,
     // Tile to several vectors, with and without zeroing.
     0xC006_0000,
     0xC006_0200,
     0xC006_0400,
     0xC006_0600,
     0xC046_0000,
-    // Array forms with the other number of registers, with low bits of the
-    // first register set, and with fixed bits changed.
-    0xC006_0800,
-    0xC006_0E00,
+    // Array forms with low bits of the first register set: one for two
+    // registers, two for four.
+    0xC006_0801,
     0xC006_0A01,
     0xC006_0C01,
     0xC006_0C02,
     0xC006_0C03,
-    0xC006_8C00,
+    0xC006_0E01,
+    0xC006_0E02,
+    0xC006_0E03,
+    // Array forms with fixed bits changed.
+    0xC006_8800,
     0xC006_8A00,
-    0xC006_1C00,
+    0xC006_8C00,
+    0xC006_8E00,
+    0xC006_1800,
     0xC006_1A00,
-    0xC006_0D00,
+    0xC006_1C00,
+    0xC006_1E00,
+    0xC006_0900,
     0xC006_0B00,
-    0xC007_0C00,
+    0xC006_0D00,
+    0xC006_0F00,
+    0xC007_0800,
     0xC007_0A00,
+    0xC007_0C00,
+    0xC007_0E00,
+    0xC046_0800,
     0xC046_0C00,
     0xC086_0A00,
+    0xC086_0E00,
     0xC0C6_0C00,
     // Zeroing, additions to a tile, an outer product, a load of vectors.
     0xC008_0000,
@@ -114,7 +134,7 @@ pub fn list() -> Vec<(u32, u8)> {
     words.into_items()
 }
 
-/// The words of section 7 of document 01.
+/// The words of section 7 of document 01, and those for the added rows.
 fn add_examples(words: &mut Words) {
     let decoding = examples::DECODING.map(|(word, _, _)| word);
     add_at_all_levels(words, &decoding);
@@ -175,7 +195,7 @@ fn add_random_words(words: &mut Words, random: &mut Random) {
 /// Words of the rows, every third with one bit flipped. Half of them are
 /// at the highest level, where all rows decode.
 fn add_random_members(words: &mut Words, random: &mut Random) {
-    for turn in 0..3000 {
+    for turn in 0..230 * ROWS.len() {
         let row = &ROWS[random.below(ROWS.len())];
         let mut word = row.word(&row.random(random));
         if turn % 3 == 0 {

@@ -3,8 +3,15 @@
 
 use super::machine::Machine;
 
-/// A move and a store that are done on a fresh machine.
-const WORDS: [u32; 2] = [0xC000_0000, 0xE03F_03E0];
+/// A move, a store, and one word of each added instruction. All are done on
+/// a good machine.
+const WORDS: [u32; 5] = [
+    0xC000_0000,
+    0xE03F_03E0,
+    0xC002_0000,
+    0xC006_0800,
+    0xC006_0E00,
+];
 /// A word that decodes at no level.
 const NO_ENCODING: u32 = 0xC000_0010;
 
@@ -17,7 +24,7 @@ fn good(vector_bytes: usize) -> Machine {
     machine
 }
 
-/// Both words are refused with that number.
+/// Every word is refused with that number.
 fn refused(machine: &Machine, answer: u32) {
     for word in WORDS {
         machine.expect_refused(word, answer, 0);

@@ -1,5 +1,6 @@
-//! The mistakes of document 01, section 8. Each test states what is right
-//! by section 5 and shows that the mistaken run gives something else.
+//! The mistakes of document 01, section 8, and those about the added words.
+//! Each test states what is right by section 5 and shows that the mistaken
+//! run gives something else.
 
 use super::machine::Machine;
 use crate::execute::Mistake;
@@ -96,6 +97,11 @@ fn predicate_bit_per_element() {
     wanted.set_za(0, &bytes);
     let mistake = Mistake::PredicateBitPerElement;
     right_and_mistaken(&machine, 0xC040_0000, mistake, &wanted);
+    let mut bytes = machine.z(0);
+    bytes[2..4].copy_from_slice(&machine.za(0)[2..4]);
+    let mut wanted = machine.clone();
+    wanted.set_z(0, &bytes);
+    right_and_mistaken(&machine, 0xC042_0000, mistake, &wanted);
 }
 
 /// Elements 0 to 3 are in memory and element 4 is not: nothing is written.
@@ -144,6 +150,63 @@ fn wrapping_at_32_bits_would_be_harmless() {
                 assert_eq!(whole, wrapped);
             }
         }
+    }
+}
+
+/// MOVA from tile keeps element 3 of the register, which is inactive.
+#[test]
+fn inactive_zeroed() {
+    let mut machine = Machine::new(16);
+    machine.set_w(12, 0);
+    machine.set_predicate(0, [0, 4, 8]);
+    let mut bytes = machine.za(0);
+    bytes[12..].copy_from_slice(&machine.z(0)[12..]);
+    let mut wanted = machine.clone();
+    wanted.set_z(0, &bytes);
+    right_and_mistaken(&machine, 0xC082_0000, Mistake::InactiveZeroed, &wanted);
+}
+
+/// Four vectors are B/4 apart, with and without zeroing, at every length.
+#[test]
+fn four_by_stride_of_two() {
+    let mistake = Mistake::FourByStrideOfTwo;
+    for vector_bytes in [16, 32, 64, 128, 256] {
+        let mut machine = Machine::new(vector_bytes);
+        machine.set_w(8, u32::MAX);
+        let (mut wanted, mut wanted_zero) = (machine.clone(), machine.clone());
+        for register in 0..4 {
+            let vector = vector_bytes / 4 * (register + 1) - 1;
+            wanted.set_z(register, &machine.za(vector));
+            wanted_zero.set_z(register, &machine.za(vector));
+            wanted_zero.set_za(vector, &vec![0; vector_bytes]);
+        }
+        right_and_mistaken(&machine, 0xC006_0C00, mistake, &wanted);
+        right_and_mistaken(&machine, 0xC006_0E00, mistake, &wanted_zero);
+    }
+}
+
+/// Bit 9 makes the slice zero at level 3. Below it, and with a predicate,
+/// there is no such word; the mistake finds one from level 1 on.
+#[test]
+fn bit_nine_ignored() {
+    let mistake = Mistake::BitNineIgnored;
+    let mut machine = Machine::new(16);
+    machine.set_w(12, 2);
+    machine.set_all_active(0);
+    let mut wanted = machine.clone();
+    wanted.set_z(0, &machine.za(2));
+    wanted.set_za(2, &[0; 16]);
+    right_and_mistaken(&machine, 0xC002_0200, mistake, &wanted);
+    for (word, level, answer) in [
+        (0xC002_0200, 0, 3),
+        (0xC002_0200, 1, 0),
+        (0xC0C3_0200, 2, 0),
+        (0xC002_0600, 3, 0),
+    ] {
+        machine.settings.level = level;
+        machine.expect_refused(word, 3, 0);
+        let mistaken = machine.clone().run_with(mistake, word);
+        assert_eq!(mistaken, (answer, 0), "{word:08X}");
     }
 }
 

@@ -1,18 +1,21 @@
-//! The worked examples of document 01, section 7, as far as they speak of
-//! words, and decoding and encoding against each other and the table.
+//! The worked examples of document 01, section 7, and those for the added
+//! rows, as far as they speak of words, and decoding and encoding against
+//! each other and the table.
 
+use crate::count::count_between;
 use crate::decode::decode;
 use crate::encode::encode;
 use crate::flat::{self, Flat};
 use crate::inputs::random::Random;
 use crate::inputs::rows::{Row, ROWS};
-use crate::inputs::{examples, fields, words};
-use crate::lines;
+use crate::inputs::{examples, fields};
 use crate::refusal::Refusal;
-use std::collections::HashSet;
 
-/// Examples 1, 2, 4 to 10: the numbers at the least level and above it, 3
-/// below it, 1 above the highest level.
+/// How many words decode at each level, as the amended table states it.
+const STATED: [(u8, u64); 4] = [(0, 0), (1, 1_376_256), (2, 1_377_024), (3, 1_398_272)];
+
+/// Examples 1, 2, 4 to 10 and the added ones: the numbers at the least level
+/// and above it, 3 below it, 1 above the highest level.
 #[test]
 fn examples_decode_from_their_level_on() {
     for (word, least, numbers) in examples::DECODING {
@@ -30,8 +33,8 @@ fn examples_decode_from_their_level_on() {
     }
 }
 
-/// Examples 3 and 8: words that no level decodes. A level above the
-/// highest is still told first.
+/// Examples 3 and 8 and the added ones: words that no level decodes. A
+/// level above the highest is still told first.
 #[test]
 fn examples_that_do_not_decode() {
     for word in examples::UNDECODABLE {
@@ -50,7 +53,7 @@ fn examples_encode() {
     }
 }
 
-/// Example 11.
+/// Example 11 and the like of it for the added rows.
 #[test]
 fn examples_that_do_not_encode() {
     for numbers in examples::UNENCODABLE {
@@ -63,8 +66,14 @@ fn examples_that_do_not_encode() {
 fn neighbours_of_example_eleven_encode() {
     let byte_move = [flat::MOVA_TO_TILE, 1, 0, 0, 15, 12, 0, 0, 0, 0, 1];
     assert_eq!(encode(&Flat::from_bytes(byte_move)), Ok(0xC000_000F));
+    let byte_move = [flat::MOVA_FROM_TILE, 1, 0, 0, 15, 12, 7, 0, 0, 0, 1];
+    assert_eq!(encode(&Flat::from_bytes(byte_move)), Ok(0xC002_1DE0));
     let four = [flat::MOVA_ARRAY, 0, 0, 0, 0, 8, 0, 4, 0, 0, 4];
     assert_eq!(encode(&Flat::from_bytes(four)), Ok(0xC006_0C04));
+    let four = [flat::MOVAZ_ARRAY, 0, 0, 0, 0, 8, 0, 4, 0, 0, 4];
+    assert_eq!(encode(&Flat::from_bytes(four)), Ok(0xC006_0E04));
+    let two = [flat::MOVA_ARRAY, 0, 0, 0, 0, 8, 0, 2, 0, 0, 2];
+    assert_eq!(encode(&Flat::from_bytes(two)), Ok(0xC006_0802));
 }
 
 /// Section 6: the numbers of the refusals; only 7 carries an address.
@@ -150,6 +159,34 @@ fn random_words_round_trip() {
     }
 }
 
+/// The rows add up to the stated numbers, and no two of them share a word:
+/// there is a bit, fixed in both, in which they differ.
+#[test]
+fn rows_have_the_stated_number_of_words() {
+    let values = |row: &Row| row.fields.iter().map(|field| u64::from(field.top()) + 1);
+    for (level, stated) in STATED {
+        let rows = ROWS.iter().filter(|row| row.level <= level);
+        let words: u64 = rows.map(|row| values(row).product::<u64>()).sum();
+        assert_eq!(words, stated, "level {level}");
+    }
+    for (at, row) in ROWS.iter().enumerate() {
+        for other in &ROWS[at + 1..] {
+            let fixed_in_both = row.fixed() & other.fixed();
+            assert_ne!((row.base ^ other.base) & fixed_in_both, 0);
+        }
+    }
+}
+
+/// Decoding finds the stated numbers below the two leading bytes that the
+/// rows have. The command `count` tries the other words too.
+#[test]
+fn the_stated_number_of_words_decodes() {
+    for (level, stated) in STATED {
+        let below = |byte: u64| count_between(byte << 24, (byte + 1) << 24, level);
+        assert_eq!(below(0xC0) + below(0xE0), stated, "level {level}");
+    }
+}
+
 /// Whatever is encoded decodes to the same eleven numbers, so no two flat
 /// forms share a word.
 #[test]
@@ -170,59 +207,4 @@ fn flat_form_keeps_its_order() {
     let operation = Flat::from_bytes(bytes);
     assert_eq!(operation.to_bytes(), bytes);
     assert_eq!((operation.kind, operation.vectors), (1, 11));
-}
-
-/// The input lists have no doubles and the agreed lengths.
-#[test]
-fn input_lists_are_unique_and_long_enough() {
-    let words = words::list();
-    assert!((10_000..=14_000).contains(&words.len()), "{}", words.len());
-    assert_eq!(words.iter().collect::<HashSet<_>>().len(), words.len());
-    let fields = fields::list();
-    assert!((6_000..=8_000).contains(&fields.len()), "{}", fields.len());
-    assert_eq!(fields.iter().collect::<HashSet<_>>().len(), fields.len());
-}
-
-/// The printed form of the answers.
-#[test]
-fn lines_are_answered() {
-    let decoded = |line: &str| lines::decode_line(line.as_bytes());
-    assert_eq!(
-        decoded("C080ACA9 01").unwrap(),
-        "C080ACA9 01 0 1 4 1 2 1 13 3 5 0 0 1 C080ACA9"
-    );
-    assert_eq!(decoded("C0000010 03").unwrap(), "C0000010 03 3");
-    assert_eq!(decoded("C0000000 04").unwrap(), "C0000000 04 1");
-    let encoded = |line: &str| lines::encode_line(line.as_bytes());
-    assert_eq!(
-        encoded("01040102040D0305000001").unwrap(),
-        "01040102040D0305000001 8 00000000"
-    );
-    assert_eq!(
-        encoded("01040102010D0305000001").unwrap(),
-        "01040102010D0305000001 0 C080ACA9"
-    );
-}
-
-/// Lines that are not of the agreed shape are errors, not answers.
-#[test]
-fn bad_lines_are_errors() {
-    for line in [
-        "",
-        "C0000000",
-        "C0000000 3",
-        "c0000000 03",
-        "C0000000 03 ",
-        "C0000000\t03",
-    ] {
-        assert!(lines::decode_line(line.as_bytes()).is_err(), "{line:?}");
-    }
-    for line in [
-        "",
-        "01",
-        "01040102010d0305000001",
-        "01040102010D03050000011",
-    ] {
-        assert!(lines::encode_line(line.as_bytes()).is_err(), "{line:?}");
-    }
 }

@@ -1,7 +1,7 @@
 -- `execute::operate` meets its contract: each kind has its effect.
 -- Assumes nothing.
 use mathlib.Core.Path.{refl}
-use Rattle.encoding.specs.declared.operation.Operation.the-variants.{MovaToTile, MovazFromTile, MovaFromArray, MovazFromArray}
+use Rattle.encoding.specs.declared.operation.Operation.the-variants.{MovaToTile, MovazFromTile, MovaFromArray, MovazFromArray, MovaFromTile}
 use Rattle.execute.proofs.PerformLaws.{sized, store-ready, done-performs, store-performs}
 use borrow.Author.Needs.{needs}
 use Rattle.execute.proofs.perform.operate.Statement.{statement}
@@ -37,6 +37,12 @@ store-requires c κs =
     let a = entry .args in
     store-ready (a .settings) _ _ _ _ (entry .pre .0) (rw (c .before .before .before .operation5 .given .1) at (entry .pre .1))
 
+move-from-tile-requires : tie.Need-move-from-tile-requires
+move-from-tile-requires c κs =
+    let entry = c .before .before .before .before .before .before .before .before .before .before in
+    let a = entry .args in
+    (sized (a .settings) _ _ _ (entry .pre .0), rw (c .before .before .before .operation6 .given .1) at (entry .pre .1))
+
 returns : tie.Need-returns
 returns c =
     let entry = c .before .before .before .before .before .before .before .before .before .before .before .before .before in
@@ -67,6 +73,12 @@ returns-5 c =
     let a = entry .args in
     store-performs (a .settings) _ _ _ (a .operation) (c .before .before .before .before .before .before .operation5 .given .0 .0) (c .before .before .store .result) _ (c .before .before .before .before .before .before .operation5 .given .1) (c .before .before .store .ensures)
 
+returns-6 : tie.Need-returns-6
+returns-6 c =
+    let entry = c .before .before .before .before .before .before .before .before .before .before .before .before .before in
+    let a = entry .args in
+    done-performs (a .settings) _ _ _ (a .operation) (MovaFromTile (c .before .before .before .before .before .before .operation6 .given .0 .0)) _ (c .before .before .before .before .before .before .operation6 .given .1) refl (c .before .before .move-from-tile .ensures) refl refl
+
 pub operate-spec : {M : Type 1} → statement M
 operate-spec =
     tie.close
@@ -82,6 +94,8 @@ operate-spec =
     (λ c. search needs)
     store-requires
     (λ c. search needs)
+    move-from-tile-requires
+    (λ c. search needs)
     (λ c. search needs)
     returns
     (λ c. search needs)
@@ -95,4 +109,7 @@ operate-spec =
     returns-4
     (λ c. search needs)
     (λ c. search needs)
-    returns-5)
+    returns-5
+    (λ c. search needs)
+    (λ c. search needs)
+    returns-6)

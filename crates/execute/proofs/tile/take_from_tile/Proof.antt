@@ -35,7 +35,7 @@ take-slice-requires c κs =
 returns : tie.Need-returns
 returns c =
     let a = c .before .before .before .before .before .before .before .before .before .before .before .before .before .before .before .before .before .args in (
-      c .before .before .before .before .take-slice .ensures .0 ∙ taken-from-tile (a .vector-bytes) _ _ _ _ (a .operation) (c .before .before .before .before .before .before .before .before .before .before .before .before .elements-in .ensures) (c .before .before .before .before .before .before .selected .ensures .0),
+      c .before .before .before .before .take-slice .ensures .0 ∙ taken-from-tile (a .vector-bytes) _ _ _ _ _ (a .operation) (c .before .before .before .before .before .before .before .before .before .before .before .before .elements-in .ensures) (c .before .before .before .before .before .before .selected .ensures .0),
       c .before .before .before .before .take-slice .ensures .1 ∙ zeroed-in-tile (a .vector-bytes) _ _ [] _ (a .operation) (c .before .before .before .before .before .before .before .before .before .before .before .before .elements-in .ensures) (c .before .before .before .before .before .before .selected .ensures .0),
     )
 

@@ -9,8 +9,8 @@ use std::hint::black_box;
 
 /// Where memory stands.
 const ADDRESS: u64 = 0x10000;
-/// The value of every index register: a slice of the smallest tile that is
-/// timed, and not the first.
+/// The value of every index register: a slice of tiles with four rows or
+/// more, and not the first.
 const INDEX: u64 = 3;
 
 /// Settings, word and buffers of one operation.
@@ -95,12 +95,13 @@ impl Machine {
         }
     }
 
-    /// The tile of the task: the byte tile, or tile 1 of four bytes.
+    /// The tile of the task: the byte tile, or tile 1 of a wider size.
     fn column(&self) -> plain::Column {
+        let slices = self.vector_bytes / self.element_bytes;
         plain::Column {
             vector_bytes: black_box(self.vector_bytes),
             tile: black_box(usize::from(self.element_bytes > 1)),
-            slice: black_box(INDEX as usize),
+            slice: black_box(INDEX as usize % slices),
         }
     }
 
@@ -109,7 +110,8 @@ impl Machine {
         let source = &self.z[self.vector_bytes..];
         match self.element_bytes {
             1 => plain::to_tile::<1>(&column, &mut self.za, source, &self.p),
-            _ => plain::to_tile::<4>(&column, &mut self.za, source, &self.p),
+            4 => plain::to_tile::<4>(&column, &mut self.za, source, &self.p),
+            _ => plain::to_tile::<16>(&column, &mut self.za, source, &self.p),
         }
     }
 
@@ -117,8 +119,19 @@ impl Machine {
         let column = self.column();
         let target = &mut self.z[self.vector_bytes..];
         match self.element_bytes {
-            1 => plain::from_tile::<1>(&column, &mut self.za, target),
-            _ => plain::from_tile::<4>(&column, &mut self.za, target),
+            1 => plain::from_tile::<1>(&column, &self.za, target, &self.p),
+            4 => plain::from_tile::<4>(&column, &self.za, target, &self.p),
+            _ => plain::from_tile::<16>(&column, &self.za, target, &self.p),
+        }
+    }
+
+    pub fn strided_zeroing_from_tile(&mut self) {
+        let column = self.column();
+        let target = &mut self.z[self.vector_bytes..];
+        match self.element_bytes {
+            1 => plain::zeroing_from_tile::<1>(&column, &mut self.za, target),
+            4 => plain::zeroing_from_tile::<4>(&column, &mut self.za, target),
+            _ => plain::zeroing_from_tile::<16>(&column, &mut self.za, target),
         }
     }
 
@@ -131,12 +144,41 @@ impl Machine {
 /// Predicate 0 governs; the others are left empty.
 fn predicates(vector_bytes: usize, task: &Task) -> Vec<u8> {
     let step = match task.active {
-        Active::All => task.element_bytes,
-        Active::Alternating => 2 * task.element_bytes,
+        Active::All => 1,
+        Active::Alternating => 2,
+        Active::Sparse => 8,
+        Active::None => return vec![0; 2 * vector_bytes],
     };
     let mut p = vec![0; 2 * vector_bytes];
-    for bit in (0..vector_bytes).step_by(step) {
+    for bit in (0..vector_bytes).step_by(step * task.element_bytes) {
         p[bit / 8] |= 1 << (bit % 8);
     }
     p
+}
+
+#[cfg(test)]
+mod tests {
+    use super::*;
+    use crate::task::{self, Strided};
+
+    /// The plain loop of each vertical operation leaves what the unit leaves.
+    #[test]
+    fn loops_do_what_the_unit_does() {
+        for vector_bytes in [16, 64, 256] {
+            for task in task::list() {
+                let mut own = Machine::new(vector_bytes, &task);
+                match task.strided {
+                    Strided::None => continue,
+                    Strided::ToTile => own.strided_to_tile(),
+                    Strided::FromTile => own.strided_from_tile(),
+                    Strided::ZeroingFromTile => own.strided_zeroing_from_tile(),
+                    Strided::Store => own.strided_store(),
+                }
+                let mut unit = Machine::new(vector_bytes, &task);
+                assert_eq!(unit.archive(), 0, "{}", task.name);
+                let same = own.z == unit.z && own.za == unit.za && own.memory == unit.memory;
+                assert!(same, "{}, length {vector_bytes}", task.name);
+            }
+        }
+    }
 }

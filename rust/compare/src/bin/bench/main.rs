@@ -1,5 +1,6 @@
 //! Times the archive's function beside the second program, a plain copy of
-//! as many bytes (and clearing as many, for what zeroes), and a plain strided loop.
+//! as many bytes (and clearing as many, for what zeroes), and a plain strided
+//! loop. The goal, where there is one, is for the last ratio of the line.
 
 #![forbid(unsafe_code)]
 
@@ -47,6 +48,11 @@ fn time(task: &Task, machine: &mut Machine) -> Contest {
             Strided::None => (),
             Strided::ToTile => contest.strided.batch(|| machine.strided_to_tile()),
             Strided::FromTile => contest.strided.batch(|| machine.strided_from_tile()),
+            Strided::ZeroingFromTile => {
+                contest
+                    .strided
+                    .batch(|| machine.strided_zeroing_from_tile());
+            }
             Strided::Store => contest.strided.batch(|| machine.strided_store()),
         }
     }
@@ -55,8 +61,8 @@ fn time(task: &Task, machine: &mut Machine) -> Contest {
 
 fn print_heading() {
     println!(
-        "{:<43} {:>6} {:>9} {:>9} {:>9} {:>9} {:>8} {:>8}",
-        "operation", "length", "archive", "second", "copy", "strided", "/copy", "/strided"
+        "{:<45} {:>6} {:>9} {:>9} {:>9} {:>9} {:>8} {:>8} {:>5}",
+        "operation", "length", "archive", "second", "copy", "strided", "/copy", "/strided", "goal"
     );
 }
 
@@ -65,14 +71,15 @@ fn print_line(task: &Task, vector_bytes: usize, contest: &Contest) {
     let copy = contest.copy.least();
     let strided = contest.strided.least();
     println!(
-        "{:<43} {vector_bytes:>6} {:>9} {:>9} {:>9} {:>9} {:>8} {:>8}",
+        "{:<45} {vector_bytes:>6} {:>9} {:>9} {:>9} {:>9} {:>8} {:>8} {:>5}",
         task.name,
         number(archive),
         number(contest.second.least()),
         number(copy),
         number(strided),
         ratio(archive, copy),
-        ratio(archive, strided)
+        ratio(archive, strided),
+        number(task.goal)
     );
 }
 

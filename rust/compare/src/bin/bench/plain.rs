@@ -29,8 +29,19 @@ pub fn to_tile<const M: usize>(column: &Column, za: &mut [u8], z: &[u8], p: &[u8
     }
 }
 
+/// As MOVA from tile, with the same predicate test: it reads the column and
+/// writes the register, whose inactive elements stay.
+pub fn from_tile<const M: usize>(column: &Column, za: &[u8], z: &mut [u8], p: &[u8]) {
+    for e in 0..column.vector_bytes / M {
+        if active(p, e * M) {
+            let place = column.place::<M>(e);
+            z[e * M..e * M + M].copy_from_slice(&za[place..place + M]);
+        }
+    }
+}
+
 /// As MOVAZ from tile: it zeroes what it moves.
-pub fn from_tile<const M: usize>(column: &Column, za: &mut [u8], z: &mut [u8]) {
+pub fn zeroing_from_tile<const M: usize>(column: &Column, za: &mut [u8], z: &mut [u8]) {
     for e in 0..column.vector_bytes / M {
         let place = column.place::<M>(e);
         let element = &mut za[place..place + M];
