@@ -1,6 +1,7 @@
 -- Laws of specs/Column.antt: one element of a column, and what a column's elements leave alone.
 -- Assumes nothing.
 use mathlib.Core.Path.{_≡_, sym, ap, _∙_, fun-ext}
+use mathlib.Core.Bool.{Bool}
 use mathlib.Core.List.{List}
 use Prim.Native.Nat.{ℕ, _+_, _*_, _/_, _%_, _^_, _<_, _≤_}
 use native.Mathlib.Nat.{div-lt-iff-lt-mul, mod-lt, add-mul, div-add-mod'}
@@ -34,6 +35,14 @@ strided-element base step m e i h = rw (digits-div e h, digits-mod e h)
 pub strided-from : (base m : ℕ) → strided base m m ≡ from base
 unfolding strided
 strided-from base m = fun-ext (λ k. omega (arith, div-add-mod' k m))
+
+-- the same where code has the elements' length by another name, as places and as places that are read
+pub strided-from-as : (base : ℕ) {s m : ℕ} → s ≡ m → strided base s m ≡ from base
+strided-from-as base {s} {m} q = rw q (strided-from base m)
+
+pub read-from-as : (at : ℕ → ℕ) (on : ℕ → Bool) (src : List ℕ) (base : ℕ) {s m : ℕ} (n : ℕ) (l : List ℕ) {d : List ℕ} → s ≡ m → d ≡ scatter at on (λ (k : ℕ). getD src (strided base s m k) 0) n l → d ≡ scatter at on (λ (k : ℕ). getD src (base + k) 0) n l
+read-from-as at on src base n l q r =
+    r ∙ ap (λ (f : ℕ → ℕ). scatter at on (λ (k : ℕ). getD src (f k) 0) n l) (strided-from-as base q)
 
 -- elements of one byte, eight at a time
 pub strided-eight : (base step g i : ℕ) → strided base step 1 (g * 8 + i) ≡ base + g * 8 * step + i * step

@@ -13,17 +13,25 @@ use crate::element::copy_element;
 use crate::element::merge_elements;
 use encoding::ElementSize;
 
-// Copies the active ones of 8 bytes, which go by the bits of b, to bytes that stand step apart: every
-// one is written, the others with what they hold.
-fn merge_eight(dst: &mut [u8], base: usize, step: usize, src: &[u8], sbase: usize, b: u8)
-    requires { ⌜ sbase + 8 ≤ length (now src) ⌝ }
+// Copies the active ones of 8 bytes that stand sstep apart, which go by the bits of b, to bytes that stand
+// step apart: every one is written, the others with what they hold.
+fn merge_eight(
+    dst: &mut [u8],
+    base: usize,
+    step: usize,
+    src: &[u8],
+    sbase: usize,
+    sstep: usize,
+    b: u8,
+)
+    requires { ⌜ ((e : ℕ) → e < 8 → sbase + e * sstep < length (now src)) ⌝ }
     requires { ⌜ ((e : ℕ) → e < 8 → base + e * step < length (now dst)) ⌝ }
-    ensures { λ _. ⌜ now (dst .exit) ≡ scatter (λ (k : ℕ). base + k * step) (λ (k : ℕ). eqb (b / 2 ^ k % 2) 1) (λ (k : ℕ). getD (now (src .entry)) (sbase + k) 0) 8 (now (dst .entry)) ⌝ }
+    ensures { λ _. ⌜ now (dst .exit) ≡ scatter (λ (k : ℕ). base + k * step) (λ (k : ℕ). eqb (b / 2 ^ k % 2) 1) (λ (k : ℕ). getD (now (src .entry)) (sbase + k * sstep) 0) 8 (now (dst .entry)) ⌝ }
 {
     let mut i = 0;
     while i < 8 {
         let at = base + i * step;
-        dst[at] = choose((b >> i) % 2 == 1, src[sbase + i], dst[at]);
+        dst[at] = choose((b >> i) % 2 == 1, src[sbase + i * sstep], dst[at]);
         i += 1;
     }
 }
@@ -35,43 +43,55 @@ fn merge_column_bytes(
     step: usize,
     src: &[u8],
     sbase: usize,
+    sstep: usize,
     p: &[u8],
     pbase: usize,
     n: usize,
 )
-    requires { ⌜ (sbase + n * 8 ≤ length (now src)) × (pbase + n ≤ length (now p)) ⌝ }
+    requires { ⌜ (n * 8 ≤ length (now dst)) × (pbase + n ≤ length (now p)) ⌝ }
     requires { ⌜ ((e : ℕ) → e < n * 8 → base + e * step < length (now dst)) ⌝ }
-    ensures { λ _. ⌜ now (dst .exit) ≡ scatter (strided base step 1) (active (now (p .entry)) pbase 1) (λ (k : ℕ). getD (now (src .entry)) (sbase + k) 0) (n * 8) (now (dst .entry)) ⌝ }
+    requires { ⌜ ((e : ℕ) → e < n * 8 → sbase + e * sstep < length (now src)) ⌝ }
+    ensures { λ _. ⌜ now (dst .exit) ≡ scatter (strided base step 1) (active (now (p .entry)) pbase 1) (λ (k : ℕ). getD (now (src .entry)) (strided sbase sstep 1 k) 0) (n * 8) (now (dst .entry)) ⌝ }
 {
     let mut g = 0;
     while g < n {
         let b = p[pbase + g];
-        merge_eight(dst, base + g * 8 * step, step, src, sbase + g * 8, b);
+        merge_eight(
+            dst,
+            base + g * 8 * step,
+            step,
+            src,
+            sbase + g * 8 * sstep,
+            sstep,
+            b,
+        );
         g += 1;
     }
 }
 
-// Copies the active ones of n elements, which have whole predicate bytes, from index sbase of src on
-// to elements of dst that stand step apart, under the governing predicate from index pbase of p on.
+// Copies the active ones of n elements, which have whole predicate bytes, of src that stand sstep apart, from
+// index sbase on, to elements of dst that stand step apart, under the governing predicate from index pbase of p on.
 pub fn merge_column(
     dst: &mut [u8],
     base: usize,
     step: usize,
     src: &[u8],
     sbase: usize,
+    sstep: usize,
     p: &[u8],
     pbase: usize,
     size: ElementSize,
     n: usize,
 )
-    requires { ⌜ (n * bytesOf size % 8 ≡ 0) × (sbase + n * bytesOf size ≤ length (now src)) × (pbase * 8 + n * bytesOf size ≤ 8 * length (now p)) ⌝ }
+    requires { ⌜ (n * bytesOf size % 8 ≡ 0) × (n * bytesOf size ≤ length (now dst)) × (pbase * 8 + n * bytesOf size ≤ 8 * length (now p)) ⌝ }
     requires { ⌜ ((e : ℕ) → e < n → base + e * step + bytesOf size ≤ length (now dst)) ⌝ }
-    ensures { λ _. ⌜ now (dst .exit) ≡ scatter (strided base step (bytesOf size)) (active (now (p .entry)) pbase (bytesOf size)) (λ (k : ℕ). getD (now (src .entry)) (sbase + k) 0) (n * bytesOf size) (now (dst .entry)) ⌝ }
+    requires { ⌜ ((e : ℕ) → e < n → sbase + e * sstep + bytesOf size ≤ length (now src)) ⌝ }
+    ensures { λ _. ⌜ now (dst .exit) ≡ scatter (strided base step (bytesOf size)) (active (now (p .entry)) pbase (bytesOf size)) (λ (k : ℕ). getD (now (src .entry)) (strided sbase sstep (bytesOf size) k) 0) (n * bytesOf size) (now (dst .entry)) ⌝ }
 {
     if size.bytes() == 1 {
-        merge_column_bytes(dst, base, step, src, sbase, p, pbase, n / 8);
+        merge_column_bytes(dst, base, step, src, sbase, sstep, p, pbase, n / 8);
     } else {
-        merge_elements(dst, base, step, src, sbase, p, pbase, size, n);
+        merge_elements(dst, base, step, src, sbase, sstep, p, pbase, size, n);
     }
 }
 
@@ -97,28 +117,6 @@ pub fn take_column(
         let at = base + e * step;
         copy_element(z, zbase + e * m, za, at, size);
         clear_element(za, at, size);
-        e += 1;
-    }
-}
-
-// Copies n elements of za that stand step apart to dst, from index at_dst on.
-pub fn gather_column(
-    dst: &mut [u8],
-    at_dst: usize,
-    za: &[u8],
-    base: usize,
-    step: usize,
-    size: ElementSize,
-    n: usize,
-)
-    requires { ⌜ «at_dst» + n * bytesOf size ≤ length (now dst) ⌝ }
-    requires { ⌜ ((e : ℕ) → e < n → base + e * step + bytesOf size ≤ length (now za)) ⌝ }
-    ensures { λ _. ⌜ now (dst .exit) ≡ scatter (from «at_dst») all (λ (k : ℕ). getD (now (za .entry)) (strided base step (bytesOf size) k) 0) (n * bytesOf size) (now (dst .entry)) ⌝ }
-{
-    let m = size.bytes() as usize;
-    let mut e = 0;
-    while e < n {
-        copy_element(dst, at_dst + e * m, za, base + e * step, size);
         e += 1;
     }
 }

@@ -60,27 +60,6 @@ fn merge_bytes(dst: &mut [u8], at_dst: usize, src: &[u8], at_src: usize, on: boo
     copy_bytes(dst, at_dst, &part, 0, n);
 }
 
-// Copies one element where the test holds.
-fn merge_element(
-    dst: &mut [u8],
-    at_dst: usize,
-    src: &[u8],
-    at_src: usize,
-    on: bool,
-    size: ElementSize,
-)
-    requires { ⌜ («at_dst» + bytesOf size ≤ length (now dst)) × («at_src» + bytesOf size ≤ length (now src)) ⌝ }
-    ensures { λ _. ⌜ now (dst .exit) ≡ scatter (from «at_dst») (λ (k : ℕ). on) (λ (k : ℕ). getD (now (src .entry)) («at_src» + k) 0) (bytesOf size) (now (dst .entry)) ⌝ }
-{
-    match size {
-        ElementSize::Bits8 => merge_bytes(dst, at_dst, src, at_src, on, 1),
-        ElementSize::Bits16 => merge_bytes(dst, at_dst, src, at_src, on, 2),
-        ElementSize::Bits32 => merge_bytes(dst, at_dst, src, at_src, on, 4),
-        ElementSize::Bits64 => merge_bytes(dst, at_dst, src, at_src, on, 8),
-        ElementSize::Bits128 => merge_bytes(dst, at_dst, src, at_src, on, 16),
-    }
-}
-
 // Bit i of the predicate that starts at index base of p.
 fn bit_at(p: &[u8], base: usize, i: usize) -> bool
     requires { ⌜ base + i / 8 < length (now p) ⌝ }
@@ -89,28 +68,56 @@ fn bit_at(p: &[u8], base: usize, i: usize) -> bool
     (p[base + i / 8] >> (i % 8)) % 2 == 1
 }
 
-// Copies the active ones of n elements, one after another, from index sbase of src on to elements of
-// dst that stand step apart, under the governing predicate from index pbase of p on.
+// Copies the active ones of n elements of m bytes of src that stand sstep apart, from index sbase on, to elements
+// of dst that stand step apart, under the governing predicate from index pbase of p on.
+pub fn merge_sized(
+    dst: &mut [u8],
+    base: usize,
+    step: usize,
+    src: &[u8],
+    sbase: usize,
+    sstep: usize,
+    p: &[u8],
+    pbase: usize,
+    m: usize,
+    n: usize,
+)
+    requires { ⌜ (0 < m) × (m ≤ 16) × (n * m ≤ length (now dst)) × (pbase * 8 + n * m ≤ 8 * length (now p)) ⌝ }
+    requires { ⌜ ((e : ℕ) → e < n → base + e * step + m ≤ length (now dst)) ⌝ }
+    requires { ⌜ ((e : ℕ) → e < n → sbase + e * sstep + m ≤ length (now src)) ⌝ }
+    ensures { λ _. ⌜ now (dst .exit) ≡ scatter (strided base step m) (active (now (p .entry)) pbase m) (λ (k : ℕ). getD (now (src .entry)) (strided sbase sstep m k) 0) (n * m) (now (dst .entry)) ⌝ }
+{
+    let mut e = 0;
+    while e < n {
+        let on = bit_at(p, pbase, e * m);
+        merge_bytes(dst, base + e * step, src, sbase + e * sstep, on, m);
+        e += 1;
+    }
+}
+
+// The same for an element size: the bytes are written out for each, so that each has a loop of its own.
 pub fn merge_elements(
     dst: &mut [u8],
     base: usize,
     step: usize,
     src: &[u8],
     sbase: usize,
+    sstep: usize,
     p: &[u8],
     pbase: usize,
     size: ElementSize,
     n: usize,
 )
-    requires { ⌜ (sbase + n * bytesOf size ≤ length (now src)) × (pbase * 8 + n * bytesOf size ≤ 8 * length (now p)) ⌝ }
+    requires { ⌜ (n * bytesOf size ≤ length (now dst)) × (pbase * 8 + n * bytesOf size ≤ 8 * length (now p)) ⌝ }
     requires { ⌜ ((e : ℕ) → e < n → base + e * step + bytesOf size ≤ length (now dst)) ⌝ }
-    ensures { λ _. ⌜ now (dst .exit) ≡ scatter (strided base step (bytesOf size)) (active (now (p .entry)) pbase (bytesOf size)) (λ (k : ℕ). getD (now (src .entry)) (sbase + k) 0) (n * bytesOf size) (now (dst .entry)) ⌝ }
+    requires { ⌜ ((e : ℕ) → e < n → sbase + e * sstep + bytesOf size ≤ length (now src)) ⌝ }
+    ensures { λ _. ⌜ now (dst .exit) ≡ scatter (strided base step (bytesOf size)) (active (now (p .entry)) pbase (bytesOf size)) (λ (k : ℕ). getD (now (src .entry)) (strided sbase sstep (bytesOf size) k) 0) (n * bytesOf size) (now (dst .entry)) ⌝ }
 {
-    let m = size.bytes() as usize;
-    let mut e = 0;
-    while e < n {
-        let on = bit_at(p, pbase, e * m);
-        merge_element(dst, base + e * step, src, sbase + e * m, on, size);
-        e += 1;
+    match size {
+        ElementSize::Bits8 => merge_sized(dst, base, step, src, sbase, sstep, p, pbase, 1, n),
+        ElementSize::Bits16 => merge_sized(dst, base, step, src, sbase, sstep, p, pbase, 2, n),
+        ElementSize::Bits32 => merge_sized(dst, base, step, src, sbase, sstep, p, pbase, 4, n),
+        ElementSize::Bits64 => merge_sized(dst, base, step, src, sbase, sstep, p, pbase, 8, n),
+        ElementSize::Bits128 => merge_sized(dst, base, step, src, sbase, sstep, p, pbase, 16, n),
     }
 }

@@ -6,7 +6,6 @@ mod element;
 mod group;
 mod merge;
 
-pub use column::gather_column;
 pub use column::merge_column;
 pub use column::take_column;
 pub use copy::clear_bytes;

@@ -9,7 +9,7 @@ ghost use Rattle.tiles.specs.Predicate.{active};
 ghost use Rattle.moves.specs.Mask.{flag, Masks, maskRow};
 use crate::copy::copy_bytes;
 use crate::element::choose;
-use crate::element::merge_elements;
+use crate::element::merge_sized;
 use encoding::ElementSize;
 
 // The row of a size in the table of masks.
@@ -108,7 +108,7 @@ pub fn merge_vector(
     ensures { λ _. ⌜ now (dst .exit) ≡ scatter (from «at_dst») (active (now (p .entry)) pbase (bytesOf size)) (λ (k : ℕ). getD (now (src .entry)) («at_src» + k) 0) (n * 16) (now (dst .entry)) ⌝ }
 {
     if size.bytes() == 16 {
-        merge_elements(dst, at_dst, 16, src, at_src, p, pbase, size, n);
+        merge_sized(dst, at_dst, 16, src, at_src, 16, p, pbase, 16, n);
     } else {
         merge_sixteens(dst, at_dst, src, at_src, p, pbase, size, n);
     }

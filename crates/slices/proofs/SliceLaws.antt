@@ -63,6 +63,12 @@ module _ (S B m n t s : ℕ) (h : Placed S B m n t s) where
       rw (p, q)
       (omega (arith, byteOf-within S B m n (h .size) (h .fit) t (h .tile) d s e (m - 1) (h .slice) w (omega arith), sliceStart-byte S m t d s e (m - 1)))
 
+  -- a vector is no longer than ZA
+  pub vector-fits : B ≤ B * S
+  vector-fits =
+      let some : 1 ≤ S = omega (arith, vector-below, h .fit) in
+      omega (arith, mul-le-mul-left B some)
+
   -- the elements of a vertical slice stand apart
   pub column-apart : m ≤ m * S
   column-apart =

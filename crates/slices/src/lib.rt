@@ -12,7 +12,6 @@ use encoding::Direction;
 use encoding::ElementSize;
 use moves::clear_bytes;
 use moves::copy_vector;
-use moves::gather_column;
 use moves::merge_column;
 use moves::merge_vector;
 use moves::take_column;
@@ -74,9 +73,9 @@ pub fn move_to_slice(
             merge_vector(za, start, z, zbase, p, pbase, size, vector_bytes / 16);
         }
         Direction::Vertical => {
-            let step = size.bytes() as usize * stride;
+            let m = size.bytes() as usize;
             let n = elements_in(vector_bytes, size);
-            merge_column(za, start, step, z, zbase, p, pbase, size, n);
+            merge_column(za, start, m * stride, z, zbase, m, p, pbase, size, n);
         }
     }
 }
@@ -113,7 +112,7 @@ pub fn take_slice(
 }
 
 // Copies the active elements of a slice of za to bytes that follow each other from index at_dst of dst on,
-// under the governing predicate that starts at index pbase of p. A vertical slice is gathered first.
+// under the governing predicate that starts at index pbase of p.
 pub fn merge_from_slice(
     dst: &mut [u8],
     at_dst: usize,
@@ -137,11 +136,9 @@ pub fn merge_from_slice(
             merge_vector(dst, at_dst, za, start, p, pbase, size, vector_bytes / 16);
         }
         Direction::Vertical => {
-            let step = size.bytes() as usize * stride;
+            let m = size.bytes() as usize;
             let n = elements_in(vector_bytes, size);
-            let mut part = [0u8; 256];
-            gather_column(&mut part, 0, za, start, step, size, n);
-            merge_vector(dst, at_dst, &part, 0, p, pbase, size, vector_bytes / 16);
+            merge_column(dst, at_dst, m, za, start, m * stride, p, pbase, size, n);
         }
     }
 }

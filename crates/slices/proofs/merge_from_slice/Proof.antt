@@ -1,17 +1,14 @@
--- `slices::merge_from_slice` meets its contract: a horizontal slice is a run of bytes, a vertical one a column, of which
--- the local array then has the bytes in order.
+-- `slices::merge_from_slice` meets its contract: a horizontal slice is a run of bytes, a vertical one a column.
 -- Assumes nothing.
 use borrow.Author.Needs.{needs}
-use mathlib.Core.Path.{_≡_, refl, _∙_}
+use mathlib.Core.Path.{_≡_, refl}
 use Prim.Native.Nat.{_*_, _/_}
 use native.Mathlib.Omega.{arith}
-use lib.ListN.{getD}
 use Rattle.encoding.specs.Flat.{bytesOf}
 use Rattle.tiles.specs.Scatter.{from}
-use Rattle.tiles.specs.Tile.{sliceAt}
 use Rattle.moves.specs.Column.{strided}
-use Rattle.moves.proofs.BlockLaws.{scatter-as, gather-as}
-use Rattle.moves.proofs.PartLaws.{from-zero, scatter-by-part}
+use Rattle.moves.proofs.BlockLaws.{block-within-as, scatter-as, gather-as}
+use Rattle.moves.proofs.ColumnLaws.{strided-from-as}
 use Rattle.slices.proofs.SliceLaws.{run-within, column-within, slice-run, slice-column, step-vertical, products-small}
 use Rattle.slices.proofs.merge_from_slice.Statement.{statement}
 use Rattle.slices.proofs.merge_from_slice.Tie as tie
@@ -22,13 +19,14 @@ merge-vector-requires c κs =
     let entry = at-start .before .before .before .before in
     omega (arith, run-within _ _ _ _ _ _ (entry .pre .0) (entry .args .direction) _ (at-start .slice-start .ensures) (c .before .enum-told .given .1))
 
-mul-step : tie.Need-mul-step
-mul-step c =
-    let entry = c .before .before .before .before .before .before .before in
-    rw (c .bytes .ensures .0) (omega (arith, products-small _ _ _ _ _ _ (entry .pre .0) .2))
+mul-merge-column : tie.Need-mul-merge-column
+mul-merge-column c =
+    let at-bytes = c .before .before in
+    let entry = at-bytes .before .before .before .before .before .before .before in
+    rw (at-bytes .bytes .ensures .0) (omega (arith, products-small _ _ _ _ _ _ (entry .pre .0) .2))
 
-gather-column-requires : tie.Need-gather-column-requires
-gather-column-requires c κs =
+merge-column-requires : tie.Need-merge-column-requires
+merge-column-requires c κs =
     let at-count = c .before in
     let at-bytes = at-count .before in
     let at-arm = at-bytes .before in
@@ -36,12 +34,18 @@ gather-column-requires c κs =
     let entry = at-start .before .before .before .before in
     let a = entry .args in
     let m = bytesOf (a .size) in
+    let same = at-bytes .bytes .ensures .0 in
     let count : at-count .elements-in .result * m ≡ a .vector-bytes =
     rw (at-count .elements-in .ensures) (entry .pre .0 .size) in
-    let step = step-vertical (a .stride) m (a .direction) (at-bytes .bytes .ensures .0) (at-arm .enum-told2 .given .1) in
+    let step = step-vertical (a .stride) m (a .direction) same (at-arm .enum-told2 .given .1) in
     let within =
-    column-within _ _ _ _ _ _ (entry .pre .0) (a .direction) _ _ (at-start .slice-start .ensures) step in
-    (omega (arith, entry .pre .0 .fit, entry .pre .0 .longest), λ e w. omega (arith, within e (rw (at-count .elements-in .ensures) at w)))
+    column-within _ _ _ _ _ _ (entry .pre .0) (a .direction) _ _ (at-start .slice-start .ensures) step in (
+      omega arith,
+      (
+        λ e w. omega (arith, block-within-as e (at-count .elements-in .result) same w),
+        λ e w. omega (arith, within e (rw (at-count .elements-in .ensures) at w)),
+      ),
+    )
 
 returns : tie.Need-returns
 returns c =
@@ -57,25 +61,22 @@ returns c =
 
 returns-2 : tie.Need-returns-2
 returns-2 c =
-    let at-merge-vector = c .before .before in
-    let at-gather-column = at-merge-vector .before .before .before .before in
-    let at-count = at-gather-column .before .before in
+    let at-merge-column = c .before .before in
+    let at-count = at-merge-column .before .before in
     let at-bytes = at-count .before in
     let at-arm = at-bytes .before in
     let at-start = at-arm .before .before in
     let entry = at-start .before .before .before .before in
     let a = entry .args in
     let m = bytesOf (a .size) in
+    let same = at-bytes .bytes .ensures .0 in
     let count : at-count .elements-in .result * m ≡ a .vector-bytes =
     rw (at-count .elements-in .ensures) (entry .pre .0 .size) in
-    let sixteens : a .vector-bytes / 16 * 16 ≡ a .vector-bytes = omega arith in
-    let step = step-vertical (a .stride) m (a .direction) (at-bytes .bytes .ensures .0) (at-arm .enum-told2 .given .1) in
+    let step = step-vertical (a .stride) m (a .direction) same (at-arm .enum-told2 .given .1) in
     let column =
     slice-column (a .stride) m (a .tile) (a .direction) (a .slice) _ _ (at-start .slice-start .ensures) step in
     let places = strided (at-start .slice-start .result) (at-bytes .bytes .result * a .stride) m in
-    let gathered = from-zero _ _ _ (gather-as _ _ places _ (a .za .now) _ _ _ (at-gather-column .gather-column .ensures) column count) in
-    scatter-as _ _ _ _ _ _ _ (at-merge-vector .merge-vector2 .ensures) refl sixteens
-    ∙ scatter-by-part _ _ (λ k. getD (a .za .now) (sliceAt (a .stride) m (a .tile) (a .direction) (a .slice) k) 0) _ _ _ _ (omega (arith, entry .pre .0 .fit, entry .pre .0 .longest)) gathered
+    gather-as _ _ places _ (a .za .now) _ _ _ (scatter-as _ _ _ _ _ _ _ (at-merge-column .merge-column .ensures) (strided-from-as (a .at-dst) same) refl) column count
 
 pub merge-from-slice-spec : {M : Type 1} → statement M
 merge-from-slice-spec =
@@ -87,12 +88,9 @@ merge-from-slice-spec =
     (λ c. search needs)
     (λ c κs. search needs)
     (λ c. search needs)
-    mul-step
     (λ c κs. search needs)
-    (λ c. search needs)
-    gather-column-requires
-    (λ c. search needs)
-    (λ c κs. search needs)
+    mul-merge-column
+    merge-column-requires
     (λ c. search needs)
     returns
     (λ c. search needs)

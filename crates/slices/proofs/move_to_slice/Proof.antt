@@ -5,8 +5,9 @@ use mathlib.Core.Path.{_≡_}
 use Prim.Native.Nat.{_*_, _/_}
 use native.Mathlib.Omega.{arith}
 use Rattle.encoding.specs.Flat.{bytesOf}
-use Rattle.moves.proofs.BlockLaws.{scatter-as}
-use Rattle.slices.proofs.SliceLaws.{run-within, column-within, slice-run, slice-column, step-vertical, products-small}
+use Rattle.moves.proofs.BlockLaws.{block-within-as, scatter-as}
+use Rattle.moves.proofs.ColumnLaws.{read-from-as}
+use Rattle.slices.proofs.SliceLaws.{run-within, column-within, slice-run, slice-column, step-vertical, vector-fits, products-small}
 use Rattle.slices.proofs.move_to_slice.Statement.{statement}
 use Rattle.slices.proofs.move_to_slice.Tie as tie
 
@@ -16,10 +17,11 @@ merge-vector-requires c κs =
     let entry = at-start .before .before .before .before in
     omega (arith, run-within _ _ _ _ _ _ (entry .pre .0) (entry .args .direction) _ (at-start .slice-start .ensures) (c .before .enum-told .given .1))
 
-mul-step : tie.Need-mul-step
-mul-step c =
-    let entry = c .before .before .before .before .before .before .before in
-    rw (c .bytes .ensures .0) (omega (arith, products-small _ _ _ _ _ _ (entry .pre .0) .2))
+mul-merge-column : tie.Need-mul-merge-column
+mul-merge-column c =
+    let at-bytes = c .before .before in
+    let entry = at-bytes .before .before .before .before .before .before .before in
+    rw (at-bytes .bytes .ensures .0) (omega (arith, products-small _ _ _ _ _ _ (entry .pre .0) .2))
 
 merge-column-requires : tie.Need-merge-column-requires
 merge-column-requires c κs =
@@ -30,12 +32,18 @@ merge-column-requires c κs =
     let entry = at-start .before .before .before .before in
     let a = entry .args in
     let m = bytesOf (a .size) in
+    let same = at-bytes .bytes .ensures .0 in
     let count : at-count .elements-in .result * m ≡ a .vector-bytes =
     rw (at-count .elements-in .ensures) (entry .pre .0 .size) in
-    let step = step-vertical (a .stride) m (a .direction) (at-bytes .bytes .ensures .0) (at-arm .enum-told2 .given .1) in
+    let step = step-vertical (a .stride) m (a .direction) same (at-arm .enum-told2 .given .1) in
     let within =
-    column-within _ _ _ _ _ _ (entry .pre .0) (a .direction) _ _ (at-start .slice-start .ensures) step in
-    (omega arith, λ e w. omega (arith, within e (rw (at-count .elements-in .ensures) at w)))
+    column-within _ _ _ _ _ _ (entry .pre .0) (a .direction) _ _ (at-start .slice-start .ensures) step in (
+      omega (arith, vector-fits _ _ _ _ _ _ (entry .pre .0)),
+      (
+        λ e w. omega (arith, within e (rw (at-count .elements-in .ensures) at w)),
+        λ e w. omega (arith, block-within-as e (at-count .elements-in .result) same w),
+      ),
+    )
 
 returns : tie.Need-returns
 returns c =
@@ -59,12 +67,13 @@ returns-2 c =
     let entry = at-start .before .before .before .before in
     let a = entry .args in
     let m = bytesOf (a .size) in
+    let same = at-bytes .bytes .ensures .0 in
     let count : at-count .elements-in .result * m ≡ a .vector-bytes =
     rw (at-count .elements-in .ensures) (entry .pre .0 .size) in
-    let step = step-vertical (a .stride) m (a .direction) (at-bytes .bytes .ensures .0) (at-arm .enum-told2 .given .1) in
+    let step = step-vertical (a .stride) m (a .direction) same (at-arm .enum-told2 .given .1) in
     let column =
     slice-column (a .stride) m (a .tile) (a .direction) (a .slice) _ _ (at-start .slice-start .ensures) step in
-    scatter-as _ _ _ _ _ _ _ (at-merge-column .merge-column .ensures) column count
+    scatter-as _ _ _ _ _ _ _ (read-from-as _ _ (a .z .now) (a .zbase) _ _ same (at-merge-column .merge-column .ensures)) column count
 
 pub move-to-slice-spec : {M : Type 1} → statement M
 move-to-slice-spec =
@@ -76,8 +85,8 @@ move-to-slice-spec =
     (λ c. search needs)
     (λ c κs. search needs)
     (λ c. search needs)
-    mul-step
     (λ c κs. search needs)
+    mul-merge-column
     merge-column-requires
     (λ c. search needs)
     returns

@@ -13,7 +13,7 @@ merge-column-bytes-requires c κs =
     let at-bytes = c .before .before in
     let entry = at-bytes .before .before .before .before in
     let h = rw (sym (at-bytes .bytes .ensures .0) ∙ c .before .if1 .taken) at (entry .pre) in
-    (omega arith, λ e w. omega (arith, h .1 e (omega arith)))
+    (omega arith, (λ e w. omega (arith, h .1 .0 e (omega arith)), λ e w. omega (arith, h .1 .1 e (omega arith))))
 
 returns : tie.Need-returns
 returns c =

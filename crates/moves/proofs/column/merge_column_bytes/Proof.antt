@@ -1,8 +1,9 @@
 -- `moves::column::merge_column_bytes` meets its contract: after g turns g predicate bytes are done.
 -- Assumes nothing.
 use borrow.Author.Needs.{needs}
+use mathlib.Core.Path.{ap}
 use Prim.Native.Nat.{ℕ, _+_, _*_, _-_, _/_, _%_, _^_, _≤_}
-use native.Mathlib.Nat.{add-assoc, add-mul}
+use native.Mathlib.Nat.{add-mul}
 use native.Mathlib.Omega.{arith}
 use lib.Dec.{eqb}
 use lib.ListN.{getD}
@@ -14,11 +15,11 @@ use Rattle.moves.proofs.column.merge_column_bytes.Statement.{statement}
 use Rattle.moves.proofs.column.merge_column_bytes.Tie as tie
 
 abbrev Inv-loop : tie.InvT-loop
-Inv-loop dst₀ base step src sbase p pbase n g₀ dst g =
-    (g ≤ n) × Written (strided base step 1) (active p pbase 1) (λ (k : ℕ). getD src (sbase + k) 0) dst₀ (g * 8) dst
+Inv-loop dst₀ base step src sbase sstep p pbase n g₀ dst g =
+    (g ≤ n) × Written (strided base step 1) (active p pbase 1) (λ (k : ℕ). getD src (strided sbase sstep 1 k) 0) dst₀ (g * 8) dst
 
 abbrev μ-loop : tie.MeasureT-loop
-μ-loop dst₀ base step src sbase p pbase n g₀ dst g = n - g
+μ-loop dst₀ base step src sbase sstep p pbase n g₀ dst g = n - g
 
 loop-holds : tie.Need-loop-holds Inv-loop μ-loop
 loop-holds c = (omega arith, written-none _ _ _ _ 8)
@@ -27,20 +28,32 @@ mul-merge-eight-2 : tie.Need-mul-merge-eight-2 Inv-loop μ-loop
 mul-merge-eight-2 c =
     let at-loop = c .before .before .before in
     let entry = at-loop .before .before .before .before in
-    omega (arith, entry .pre .1 (at-loop .loop .g * 8) (omega arith))
+    omega (arith, entry .pre .1 .0 (at-loop .loop .g * 8) (omega arith))
 
 add-merge-eight : tie.Need-add-merge-eight Inv-loop μ-loop
 add-merge-eight c =
     let at-loop = c .before .before .before in
     let entry = at-loop .before .before .before .before in
-    omega (arith, entry .pre .1 (at-loop .loop .g * 8) (omega arith))
+    omega (arith, entry .pre .1 .0 (at-loop .loop .g * 8) (omega arith))
+
+mul-merge-eight-4 : tie.Need-mul-merge-eight-4 Inv-loop μ-loop
+mul-merge-eight-4 c =
+    let at-loop = c .before .before .before in
+    let entry = at-loop .before .before .before .before in
+    omega (arith, entry .pre .1 .1 (at-loop .loop .g * 8) (omega arith))
+
+add-merge-eight-2 : tie.Need-add-merge-eight-2 Inv-loop μ-loop
+add-merge-eight-2 c =
+    let at-loop = c .before .before .before in
+    let entry = at-loop .before .before .before .before in
+    omega (arith, entry .pre .1 .1 (at-loop .loop .g * 8) (omega arith))
 
 merge-eight-requires : tie.Need-merge-eight-requires Inv-loop μ-loop
 merge-eight-requires c κs =
     let at-loop = c .before .before .before in
     let entry = at-loop .before .before .before .before in
     let g = at-loop .loop .g in
-    (omega arith, λ e w. omega (arith, add-mul (g * 8) e (entry .args .step), entry .pre .1 (g * 8 + e) (omega arith)))
+    (λ e w. omega (arith, add-mul (g * 8) e (entry .args .sstep), entry .pre .1 .1 (g * 8 + e) (omega arith)), λ e w. omega (arith, add-mul (g * 8) e (entry .args .step), entry .pre .1 .0 (g * 8 + e) (omega arith)))
 
 loop-again : tie.Need-loop-again Inv-loop μ-loop
 loop-again c =
@@ -53,8 +66,8 @@ loop-again c =
     written-block _ _ _ _ (l .g) 8
     (λ k. a .base + l .g * 8 * a .step + k * a .step)
     (λ k. eqb (getD (a .p .now) (a .pbase + l .g) 0 / 2 ^ k % 2) 1)
-    (λ k. getD (a .src .now) (a .sbase + l .g * 8 + k) 0) (l .inv .1 .1)
-    (λ i w. (active-eight (a .p .now) (a .pbase) (l .g) i w, strided-eight (a .base) (a .step) (l .g) i, rw (add-assoc (a .sbase) (l .g * 8) i)))
+    (λ k. getD (a .src .now) (a .sbase + l .g * 8 * a .sstep + k * a .sstep) 0) (l .inv .1 .1)
+    (λ i w. (active-eight (a .p .now) (a .pbase) (l .g) i w, strided-eight (a .base) (a .step) (l .g) i, ap (λ (k : ℕ). getD (a .src .now) k 0) (strided-eight (a .sbase) (a .sstep) (l .g) i)))
     (at-merge-eight .merge-eight .ensures) in
     (omega arith, block)
 
@@ -76,7 +89,8 @@ merge-column-bytes-spec =
     mul-merge-eight-2
     add-merge-eight
     (λ c. search needs)
-    (λ c. search needs)
+    mul-merge-eight-4
+    add-merge-eight-2
     merge-eight-requires
     (λ c. search needs)
     (λ c. search needs)

@@ -13,11 +13,11 @@ use Rattle.moves.proofs.column.merge_eight.Statement.{statement}
 use Rattle.moves.proofs.column.merge_eight.Tie as tie
 
 abbrev Inv-loop : tie.InvT-loop
-Inv-loop dst₀ base step src sbase b i₀ dst i =
-    (i ≤ 8) × Written (λ (k : ℕ). base + k * step) (λ (k : ℕ). eqb (b / 2 ^ k % 2) 1) (λ (k : ℕ). getD src (sbase + k) 0) dst₀ i dst
+Inv-loop dst₀ base step src sbase sstep b i₀ dst i =
+    (i ≤ 8) × Written (λ (k : ℕ). base + k * step) (λ (k : ℕ). eqb (b / 2 ^ k % 2) 1) (λ (k : ℕ). getD src (sbase + k * sstep) 0) dst₀ i dst
 
 abbrev μ-loop : tie.MeasureT-loop
-μ-loop dst₀ base step src sbase b i₀ dst i = 8 - i
+μ-loop dst₀ base step src sbase sstep b i₀ dst i = 8 - i
 
 loop-holds : tie.Need-loop-holds Inv-loop μ-loop
 loop-holds c = (omega arith, (refl, scatter-none _ _ _))
@@ -27,6 +27,18 @@ mul-at c = omega (arith, c .before .before .before .before .pre .1 _ (c .loop-te
 
 add-at : tie.Need-add-at Inv-loop μ-loop
 add-at c = omega (arith, c .before .before .before .before .pre .1 _ (c .loop-test .taken))
+
+mul-choose : tie.Need-mul-choose Inv-loop μ-loop
+mul-choose c = omega (arith, c .before .before .before .before .pre .0 _ (c .loop-test .taken))
+
+add-choose : tie.Need-add-choose Inv-loop μ-loop
+add-choose c = omega (arith, c .before .before .before .before .pre .0 _ (c .loop-test .taken))
+
+shared-slice-read-choose : tie.Need-shared-slice-read-choose Inv-loop μ-loop
+shared-slice-read-choose c =
+    let at-test = c .before in
+    let entry = at-test .before .before .before .before in
+    omega (arith, entry .pre .0 _ (at-test .loop-test .taken))
 
 slice-read-choose : tie.Need-slice-read-choose Inv-loop μ-loop
 slice-read-choose c =
@@ -61,8 +73,9 @@ merge-eight-spec =
     add-at
     (λ c. search needs)
     (λ c. search needs)
-    (λ c. search needs)
-    (λ c. search needs)
+    mul-choose
+    add-choose
+    shared-slice-read-choose
     slice-read-choose
     (λ c κs. search needs)
     slice-write-dst

@@ -9,12 +9,8 @@ use Rattle.moves.proofs.MaskLaws.{bytesOf-half}
 use Rattle.moves.proofs.merge.merge_vector.Statement.{statement}
 use Rattle.moves.proofs.merge.merge_vector.Tie as tie
 
-merge-elements-requires : tie.Need-merge-elements-requires
-merge-elements-requires c κs =
-    let at-bytes = c .before .before in
-    let entry = at-bytes .before .before .before .before in
-    let wide : bytesOf (entry .args .size) ≡ 16 = sym (at-bytes .bytes .ensures .0) ∙ c .before .if1 .taken in
-    rw wide (omega arith, λ e w. omega arith)
+merge-sized-requires : tie.Need-merge-sized-requires
+merge-sized-requires c κs = (omega arith, (λ e w. omega arith, λ e w. omega arith))
 
 merge-sixteens-requires : tie.Need-merge-sixteens-requires
 merge-sixteens-requires c κs =
@@ -25,20 +21,20 @@ merge-sixteens-requires c κs =
 
 returns : tie.Need-returns
 returns c =
-    let at-merge-elements = c .before .before in
-    let at-test = at-merge-elements .before .before in
+    let at-merge-sized = c .before .before in
+    let at-test = at-merge-sized .before .before in
     let at-bytes = at-test .before in
     let entry = at-bytes .before .before .before .before in
     let a = entry .args in
     let wide : bytesOf (a .size) ≡ 16 = sym (at-bytes .bytes .ensures .0) ∙ at-test .if1 .taken in
-    at-merge-elements .merge-elements .ensures ∙ rw (wide, strided-from (a .at-dst) 16)
+    at-merge-sized .merge-sized .ensures ∙ rw (wide, strided-from (a .at-dst) 16, strided-from (a .at-src) 16)
 
 pub merge-vector-spec : {M : Type 1} → statement M
 merge-vector-spec =
     tie.close
     (tie.spec
     (λ c κs. search needs)
-    merge-elements-requires
+    merge-sized-requires
     merge-sixteens-requires
     (λ c. search needs)
     returns
