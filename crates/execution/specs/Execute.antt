@@ -2,7 +2,7 @@
 -- To believe: the order of the checks, when each fails, and that only answer 0 changes a buffer. The answer goes by settings,
 -- word, lengths, X and P alone.
 -- Assumes nothing.
-use Prim.Native.Nat.{ℕ, _+_, _*_, _/_, _%_, _^_}
+use Prim.Native.Nat.{ℕ, _+_, _%_, _^_}
 use mathlib.Core.Bool.{Bool, true, false, _&&_, not}
 use mathlib.Core.List.{List}
 use mathlib.Core.Option.{Option, none, some}

@@ -10,7 +10,7 @@ ghost use Rattle.moves.specs.Column.{strided};
 use crate::element::choose;
 use crate::element::clear_element;
 use crate::element::copy_element;
-use crate::element::merge_elements;
+use crate::element::merge_sized;
 use encoding::ElementSize;
 
 // Copies the active ones of 8 bytes that stand sstep apart, which go by the bits of b, to bytes that stand
@@ -88,10 +88,22 @@ pub fn merge_column(
     requires { ⌜ ((e : ℕ) → e < n → sbase + e * sstep + bytesOf size ≤ length (now src)) ⌝ }
     ensures { λ _. ⌜ now (dst .exit) ≡ scatter (strided base step (bytesOf size)) (active (now (p .entry)) pbase (bytesOf size)) (λ (k : ℕ). getD (now (src .entry)) (strided sbase sstep (bytesOf size) k) 0) (n * bytesOf size) (now (dst .entry)) ⌝ }
 {
-    if size.bytes() == 1 {
-        merge_column_bytes(dst, base, step, src, sbase, sstep, p, pbase, n / 8);
-    } else {
-        merge_elements(dst, base, step, src, sbase, sstep, p, pbase, size, n);
+    match size {
+        ElementSize::Bits8 => merge_column_bytes(
+            dst,
+            base,
+            step,
+            src,
+            sbase,
+            sstep,
+            p,
+            pbase,
+            n / 8,
+        ),
+        ElementSize::Bits16 => merge_sized(dst, base, step, src, sbase, sstep, p, pbase, 2, n),
+        ElementSize::Bits32 => merge_sized(dst, base, step, src, sbase, sstep, p, pbase, 4, n),
+        ElementSize::Bits64 => merge_sized(dst, base, step, src, sbase, sstep, p, pbase, 8, n),
+        ElementSize::Bits128 => merge_sized(dst, base, step, src, sbase, sstep, p, pbase, 16, n),
     }
 }
 

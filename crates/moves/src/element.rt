@@ -69,7 +69,8 @@ fn bit_at(p: &[u8], base: usize, i: usize) -> bool
 }
 
 // Copies the active ones of n elements of m bytes of src that stand sstep apart, from index sbase on, to elements
-// of dst that stand step apart, under the governing predicate from index pbase of p on.
+// of dst that stand step apart, under the governing predicate from index pbase of p on. Callers write m out, so
+// that each size has a loop of its own.
 pub fn merge_sized(
     dst: &mut [u8],
     base: usize,
@@ -92,32 +93,5 @@ pub fn merge_sized(
         let on = bit_at(p, pbase, e * m);
         merge_bytes(dst, base + e * step, src, sbase + e * sstep, on, m);
         e += 1;
-    }
-}
-
-// The same for an element size: the bytes are written out for each, so that each has a loop of its own.
-pub fn merge_elements(
-    dst: &mut [u8],
-    base: usize,
-    step: usize,
-    src: &[u8],
-    sbase: usize,
-    sstep: usize,
-    p: &[u8],
-    pbase: usize,
-    size: ElementSize,
-    n: usize,
-)
-    requires { ⌜ (n * bytesOf size ≤ length (now dst)) × (pbase * 8 + n * bytesOf size ≤ 8 * length (now p)) ⌝ }
-    requires { ⌜ ((e : ℕ) → e < n → base + e * step + bytesOf size ≤ length (now dst)) ⌝ }
-    requires { ⌜ ((e : ℕ) → e < n → sbase + e * sstep + bytesOf size ≤ length (now src)) ⌝ }
-    ensures { λ _. ⌜ now (dst .exit) ≡ scatter (strided base step (bytesOf size)) (active (now (p .entry)) pbase (bytesOf size)) (λ (k : ℕ). getD (now (src .entry)) (strided sbase sstep (bytesOf size) k) 0) (n * bytesOf size) (now (dst .entry)) ⌝ }
-{
-    match size {
-        ElementSize::Bits8 => merge_sized(dst, base, step, src, sbase, sstep, p, pbase, 1, n),
-        ElementSize::Bits16 => merge_sized(dst, base, step, src, sbase, sstep, p, pbase, 2, n),
-        ElementSize::Bits32 => merge_sized(dst, base, step, src, sbase, sstep, p, pbase, 4, n),
-        ElementSize::Bits64 => merge_sized(dst, base, step, src, sbase, sstep, p, pbase, 8, n),
-        ElementSize::Bits128 => merge_sized(dst, base, step, src, sbase, sstep, p, pbase, 16, n),
     }
 }
