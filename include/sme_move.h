@@ -19,7 +19,7 @@
 #include <stdint.h>
 
 #define SME_MOVE_VERSION_MAJOR 0
-#define SME_MOVE_VERSION_MINOR 2
+#define SME_MOVE_VERSION_MINOR 3
 
 #ifdef __cplusplus
 extern "C" {
@@ -39,9 +39,10 @@ enum sme_answer {
     SME_STREAMING_OFF = 4,
     /* ZA is off */
     SME_ZA_OFF = 5,
-    /* the stack pointer is the base of a store with an active element, and is no multiple of 16 */
+    /* the stack pointer is the base of a load or store with an active element, and is no multiple of 16 */
     SME_STACK_MISALIGNED = 6,
-    /* an active element's address is not in memory; comes with the address */
+    /* a byte of an active element is not in memory; comes with the address of the lowest such element's first such
+     * byte */
     SME_OUTSIDE_MEMORY = 7,
     /* encoding: a field is outside its range, or no word has such an operation */
     SME_OUT_OF_RANGE = 8
@@ -60,12 +61,12 @@ enum sme_answer {
 
 /*
  * An operation is eleven numbers; these are their places. What a kind does not have is 0: an array kind has no
- * element bytes, direction, tile and predicate, and only a store has a base and an offset register.
+ * element bytes, direction, tile and predicate, and only loads and stores have a base and an offset register.
  */
 enum sme_field {
     /* one of enum sme_kind */
     SME_FIELD_KIND,
-    /* m: 1, 2, 4, 8 or 16; 1 for a store */
+    /* m: 1, 2, 4, 8 or 16 */
     SME_FIELD_ELEMENT_BYTES,
     /* 0 horizontal, 1 vertical */
     SME_FIELD_DIRECTION,
@@ -77,18 +78,25 @@ enum sme_field {
     SME_FIELD_INDEX_REGISTER,
     /* 0 to 7; a move and zero has none */
     SME_FIELD_PREDICATE,
-    /* 0 to 31, a multiple of the number of vector registers; a store has none */
+    /* 0 to 31, a multiple of the number of vector registers; a load or store has none */
     SME_FIELD_FIRST_VECTOR_REGISTER,
     /* 0 to 31; 31 is the stack pointer */
     SME_FIELD_BASE_REGISTER,
     /* 0 to 31; 31 reads as zero */
     SME_FIELD_OFFSET_REGISTER,
-    /* 1 for a tile's slice, 2 or 4 for an array kind; 0 for a store */
+    /* 1 for a move of a tile's slice, 2 or 4 for an array kind; 0 for a load or store */
     SME_FIELD_VECTOR_REGISTERS,
     /* how many fields there are */
     SME_FIELD_COUNT
 };
 
+/*
+ * The kinds of nine instructions in twenty-nine encodings: an array kind is an instruction with two vector registers
+ * and one with four, each other kind is one instruction in five element sizes.
+ *
+ * Byte i of element e of a load or store has the address base + (offset + e) * m + i modulo 2^64, base and offset being
+ * the contents of their registers. It need not be aligned, and the lowest byte of an element is first.
+ */
 enum sme_kind {
     /* active elements of a vector register to a slice of a tile */
     SME_KIND_MOVE_TO_TILE = 1,
@@ -101,7 +109,9 @@ enum sme_kind {
     /* active elements of a slice of a tile to memory */
     SME_KIND_STORE = 5,
     /* active elements of a slice of a tile to a vector register, whose other elements stay */
-    SME_KIND_MOVE_FROM_TILE = 6
+    SME_KIND_MOVE_FROM_TILE = 6,
+    /* memory to the active elements of a slice of a tile, whose other elements are then zero */
+    SME_KIND_LOAD = 7
 };
 
 /*
@@ -122,7 +132,8 @@ enum sme_kind {
  *                 memory of any length, from memory_address on
  * address         always written: the address that answer 7 carries, 0 with any other
  *
- * Returns an enum sme_answer from 0 to 7. Only answer 0 changes z, za or memory.
+ * Returns an enum sme_answer from 0 to 7. Only answer 0 changes z, za or memory. Only a store writes memory, and it
+ * writes nothing else; a load writes za only, also where no element is active.
  */
 uint32_t sme_execute(uint64_t vector_bytes, uint64_t level, bool streaming, bool za_on,
                      uint64_t memory_address, uint32_t word, const uint64_t *x, size_t x_count,

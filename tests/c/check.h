@@ -29,6 +29,7 @@ enum function { EXECUTE, DECODE, ENCODE, CHECK_SETTINGS, LENGTHS, FUNCTIONS };
 
 extern unsigned seen[FUNCTIONS][9];
 
+void access_tests(void);
 void execute_tests(void);
 void word_tests(void);
 void settings_tests(void);

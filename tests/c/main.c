@@ -41,6 +41,7 @@ int main(void)
         settings_tests();
         word_tests();
         execute_tests();
+        access_tests();
     }
     for (uint32_t answer = 0; answer <= SME_OUT_OF_RANGE; answer++) {
         CHECK(strcmp(sme_answer_text(answer), sme_answer_text(9)) != 0);

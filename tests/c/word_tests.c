@@ -1,4 +1,4 @@
-/* sme_decode and sme_encode, by words of document 01's worked examples and of the rows that request 1 added. */
+/* sme_decode and sme_encode, by words of document 01's worked examples and of the rows that requests added. */
 #include "check.h"
 #include "guarded.h"
 #include "sme_move.h"
@@ -30,15 +30,40 @@ static const known known_words[] = {
     {0xC0C305E2, 1, {SME_KIND_MOVE_FROM_TILE, 16, 0, 15, 0, 12, 1, 2, 0, 0, 1}},
     {0xC00668FE, 2, {SME_KIND_MOVE_FROM_ARRAY, 0, 0, 0, 7, 11, 0, 30, 0, 0, 2}},
     {0xC0064EFC, 3, {SME_KIND_MOVE_AND_ZERO_FROM_ARRAY, 0, 0, 0, 7, 10, 0, 28, 0, 0, 4}},
+    {0xE071D52E, 1, {SME_KIND_STORE, 2, 1, 1, 6, 14, 5, 0, 9, 17, 0}},
+    {0xE0BE386B, 1, {SME_KIND_STORE, 4, 0, 2, 3, 13, 6, 0, 3, 30, 0}},
+    {0xE0E4EBEB, 1, {SME_KIND_STORE, 8, 1, 5, 1, 15, 2, 0, 31, 4, 0}},
+    {0xE1F55D4B, 1, {SME_KIND_STORE, 16, 0, 11, 0, 14, 7, 0, 10, 21, 0}},
+    {0xE006AF2E, 1, {SME_KIND_LOAD, 1, 1, 0, 14, 13, 3, 0, 25, 6, 0}},
+    {0xE05F724D, 1, {SME_KIND_LOAD, 2, 0, 1, 5, 15, 4, 0, 18, 31, 0}},
+    {0xE08CC7AE, 1, {SME_KIND_LOAD, 4, 1, 3, 2, 14, 1, 0, 29, 12, 0}},
+    {0xE0DB37ED, 1, {SME_KIND_LOAD, 8, 0, 6, 1, 13, 5, 0, 31, 27, 0}},
+    {0xE1C8FA6D, 1, {SME_KIND_LOAD, 16, 1, 13, 0, 15, 6, 0, 19, 8, 0}},
 };
 
-/* The places among them of a byte, a 4-byte and a 16-byte move from a tile, and of the added array words. */
-enum { FROM_BYTE_TILE = 9, FROM_TILE_4 = 12, FROM_TILE_16 = 14, TWO_OF_ARRAY = 15, ZERO_FOUR_OF_ARRAY = 16 };
+/*
+ * The places among them of a byte, a 4-byte and a 16-byte move from a tile, of the added array words, and of the first
+ * and the last of the added loads and stores.
+ */
+enum {
+    FROM_BYTE_TILE = 9,
+    FROM_TILE_4 = 12,
+    FROM_TILE_16 = 14,
+    TWO_OF_ARRAY = 15,
+    ZERO_FOUR_OF_ARRAY = 16,
+    FIRST_ACCESS = 17,
+    LAST_ACCESS = 25
+};
 
-/* Words that decode at no level: changed fixed bits, a move and zero with a predicate, first registers of no group. */
+/*
+ * Words that decode at no level: changed fixed bits, a move and zero with a predicate, first registers of no group, and
+ * a load or store with bit 24 and a small size.
+ */
 static const uint32_t no_words[] = {
     0,          0xC0000010, 0xC0410000, 0xC0030000, 0xC0430000, 0xC0830000, 0xC0020600, 0xC0C31E00,
-    0xC0060801, 0xC0060A01, 0xC0060C02, 0xC0060E01, 0xC0060E02, 0xC0061800, 0xC0068E00,
+    0xC0060801, 0xC0060A01, 0xC0060C02, 0xC0060E01, 0xC0060E02, 0xC0061800, 0xC0068E00, 0xE0000010,
+    0xE0200010, 0xE0E00010, 0xE1C00010, 0xE1FFFFFF, 0xE1000000, 0xE1200000, 0xE1600000, 0xE1800000,
+    0xE2000000, 0xE3E00000, 0xA0000000, 0xF0200000,
 };
 
 static void decode_one(uint32_t word, uint64_t level, uint32_t wanted, const uint8_t *wanted_fields)
@@ -139,13 +164,33 @@ static void array_ranges(void)
     refuse_one(TWO_OF_ARRAY, SME_FIELD_VECTOR_REGISTERS, 4);
 }
 
+/* The same of the added loads and stores: they have no vector register. */
+static void access_ranges(void)
+{
+    for (size_t i = FIRST_ACCESS; i <= LAST_ACCESS; i++) {
+        uint8_t m = known_words[i].fields[SME_FIELD_ELEMENT_BYTES];
+        refuse_one(i, SME_FIELD_TILE, m);
+        refuse_one(i, SME_FIELD_OFFSET, (uint8_t)(16 / m));
+        refuse_one(i, SME_FIELD_INDEX_REGISTER, 11);
+        refuse_one(i, SME_FIELD_INDEX_REGISTER, 16);
+        refuse_one(i, SME_FIELD_PREDICATE, 8);
+        refuse_one(i, SME_FIELD_FIRST_VECTOR_REGISTER, 1);
+        refuse_one(i, SME_FIELD_BASE_REGISTER, 32);
+        refuse_one(i, SME_FIELD_OFFSET_REGISTER, 32);
+        refuse_one(i, SME_FIELD_VECTOR_REGISTERS, 1);
+        refuse_one(i, SME_FIELD_VECTOR_REGISTERS, 2);
+        refuse_one(i, SME_FIELD_ELEMENT_BYTES, 0);
+        refuse_one(i, SME_FIELD_ELEMENT_BYTES, 32);
+    }
+}
+
 void word_tests(void)
 {
     for (size_t i = 0; i < sizeof known_words / sizeof known_words[0]; i++) {
         known_one(&known_words[i]);
         refuse_one(i, SME_FIELD_KIND, 0);
-        refuse_one(i, SME_FIELD_KIND, 7);
         refuse_one(i, SME_FIELD_KIND, 8);
+        refuse_one(i, SME_FIELD_KIND, 255);
         refuse_one(i, SME_FIELD_DIRECTION, 2);
         refuse_one(i, SME_FIELD_ELEMENT_BYTES, 3);
         refuse_one(i, SME_FIELD_VECTOR_REGISTERS, 3);
@@ -164,4 +209,5 @@ void word_tests(void)
     refuse_one(7, SME_FIELD_FIRST_VECTOR_REGISTER, 1);
     from_tile_ranges();
     array_ranges();
+    access_ranges();
 }

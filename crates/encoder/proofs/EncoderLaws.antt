@@ -8,7 +8,7 @@ use native.Mathlib.Omega.{arith}
 use Rattle.encoding.specs.Flat.{directionNumber, registersOf, bytesOf}
 use Rattle.encoding.specs.Table.{table}
 use Rattle.encoding.specs.Codec.{Encodes, rowOfNumbers}
-use Rattle.encoding.specs.Steps.{sizeBits, fromTileMove, fromTileBits, arrayMove, arrayBits}
+use Rattle.encoding.specs.Steps.{sizeBits, fromTileMove, fromTileBits, arrayMove, arrayBits, accessMove, accessBits}
 use Rattle.encoder.specs.Steps.{offsetCount}
 use Rattle.encoding.specs.declared.operation.ElementSize.{ElementSize}
 use Rattle.encoding.specs.declared.operation.ElementSize.the-variants.{Bits8, Bits16, Bits32, Bits64, Bits128}
@@ -16,9 +16,9 @@ use Rattle.encoding.specs.declared.operation.Direction.{Direction}
 use Rattle.encoding.specs.declared.operation.Direction.the-variants.{Horizontal, Vertical}
 use Rattle.encoding.specs.declared.operation.RegisterCount.{RegisterCount}
 use Rattle.encoding.specs.declared.operation.RegisterCount.the-variants.{Two, Four}
-use Rattle.encoding.specs.declared.operation.Operation.the-variants.{MovaToTile, St1}
+use Rattle.encoding.specs.declared.operation.Operation.the-variants.{MovaToTile}
 use Rattle.encoding.specs.declared.operation.Encoded.the-variants.{Word, OutOfRange}
-use Rattle.encoding.proofs.CodecLaws.{encodes-as, refuses-as, refuses-none}
+use Rattle.encoding.proofs.CodecLaws.{encodes-as, refuses-as}
 
 direction-below : (d : Direction) → directionNumber d < 2
 direction-below Horizontal = omega arith
@@ -103,27 +103,37 @@ module _ (rv off zd : ℕ) where
   array-refuses false Four h = refuses-as _ _ refl (λ k. h (omega arith))
 
 module _ (d : Direction) (rs pg rn rm zat imm : ℕ) where
-  abbrev pub StoreRange : ElementSize → Type 0
-  StoreRange m = (bytesOf m ≡ 1) × (12 ≤ rs) × (rs ≤ 15) × (pg ≤ 7) × (rn ≤ 31) × (rm ≤ 31) × (zat ≡ 0) × (imm ≤ 15)
+  abbrev pub AccessRange : ElementSize → Type 0
+  AccessRange m = (12 ≤ rs) × (rs ≤ 15) × (pg ≤ 7) × (rn ≤ 31) × (rm ≤ 31) × (zat < bytesOf m) × (imm < offsetCount m)
 
-  abbrev pub storeWord : ℕ
-  storeWord = 0xE0200000 + rm * 65536 + directionNumber d * 32768 + (rs - 12) * 8192 + pg * 1024 + rn * 32 + imm
+  abbrev pub accessWord : Bool → ElementSize → ℕ
+  accessWord s m = accessBits s m * 2097152 + rm * 65536 + directionNumber d * 32768 + (rs - 12) * 8192 + pg * 1024 + rn * 32 + (zat * offsetCount m + imm)
 
-  pub store-encodes : (m : ElementSize) (v : ℕ) → StoreRange m → v ≡ storeWord → Encodes (St1 (record { size = m; direction = d; rs = rs; pg = pg; rn = rn; rm = rm; zat = zat; imm = imm })) (Word v)
+  pub access-encodes : (s : Bool) (m : ElementSize) (v : ℕ) → AccessRange m → v ≡ accessWord s m → Encodes (accessMove s (record { size = m; direction = d; rs = rs; pg = pg; rn = rn; rm = rm; zat = zat; imm = imm })) (Word v)
   unfolding table rowOfNumbers
-  store-encodes Bits8 v h e = encodes-as _ _ v refl (omega (arith, direction-below d)) (omega arith)
-  store-encodes Bits16 v h e = absurd (omega arith)
-  store-encodes Bits32 v h e = absurd (omega arith)
-  store-encodes Bits64 v h e = absurd (omega arith)
-  store-encodes Bits128 v h e = absurd (omega arith)
+  access-encodes true Bits8 v h e = encodes-as _ _ v refl (omega (arith, direction-below d)) (omega arith)
+  access-encodes true Bits16 v h e = encodes-as _ _ v refl (omega (arith, direction-below d)) (omega arith)
+  access-encodes true Bits32 v h e = encodes-as _ _ v refl (omega (arith, direction-below d)) (omega arith)
+  access-encodes true Bits64 v h e = encodes-as _ _ v refl (omega (arith, direction-below d)) (omega arith)
+  access-encodes true Bits128 v h e = encodes-as _ _ v refl (omega (arith, direction-below d)) (omega arith)
+  access-encodes false Bits8 v h e = encodes-as _ _ v refl (omega (arith, direction-below d)) (omega arith)
+  access-encodes false Bits16 v h e = encodes-as _ _ v refl (omega (arith, direction-below d)) (omega arith)
+  access-encodes false Bits32 v h e = encodes-as _ _ v refl (omega (arith, direction-below d)) (omega arith)
+  access-encodes false Bits64 v h e = encodes-as _ _ v refl (omega (arith, direction-below d)) (omega arith)
+  access-encodes false Bits128 v h e = encodes-as _ _ v refl (omega (arith, direction-below d)) (omega arith)
 
-  pub store-refuses : (m : ElementSize) → (StoreRange m → ⊥) → Encodes (St1 (record { size = m; direction = d; rs = rs; pg = pg; rn = rn; rm = rm; zat = zat; imm = imm })) OutOfRange
+  pub access-refuses : (s : Bool) (m : ElementSize) → (AccessRange m → ⊥) → Encodes (accessMove s (record { size = m; direction = d; rs = rs; pg = pg; rn = rn; rm = rm; zat = zat; imm = imm })) OutOfRange
   unfolding table rowOfNumbers
-  store-refuses Bits8 h = refuses-as _ _ refl (λ k. h (omega arith))
-  store-refuses Bits16 h = refuses-none _ refl
-  store-refuses Bits32 h = refuses-none _ refl
-  store-refuses Bits64 h = refuses-none _ refl
-  store-refuses Bits128 h = refuses-none _ refl
+  access-refuses true Bits8 h = refuses-as _ _ refl (λ k. h (omega arith))
+  access-refuses true Bits16 h = refuses-as _ _ refl (λ k. h (omega arith))
+  access-refuses true Bits32 h = refuses-as _ _ refl (λ k. h (omega arith))
+  access-refuses true Bits64 h = refuses-as _ _ refl (λ k. h (omega arith))
+  access-refuses true Bits128 h = refuses-as _ _ refl (λ k. h (omega arith))
+  access-refuses false Bits8 h = refuses-as _ _ refl (λ k. h (omega arith))
+  access-refuses false Bits16 h = refuses-as _ _ refl (λ k. h (omega arith))
+  access-refuses false Bits32 h = refuses-as _ _ refl (λ k. h (omega arith))
+  access-refuses false Bits64 h = refuses-as _ _ refl (λ k. h (omega arith))
+  access-refuses false Bits128 h = refuses-as _ _ refl (λ k. h (omega arith))
 
 -- tile and offset in range fit their four bits
 pub shared-below : (m : ElementSize) (t o : ℕ) → t < bytesOf m → o < offsetCount m → t * offsetCount m + o < 16

@@ -1,11 +1,11 @@
 // Encoding: the word that stands for an operation (document 01 §4), or a refusal where a field is
-// outside its range or the table has no row for the form.
+// outside its range.
 ghost use mathlib.Core.Path.{_≡_};
 ghost use mathlib.Core.Bool.{true};
 ghost use Prim.Native.Nat.{_+_, _*_, _<_};
 ghost use Rattle.encoding.specs.Codec.{Encodes};
 ghost use Rattle.encoding.specs.Flat.{bytesOf};
-ghost use Rattle.encoding.specs.Steps.{sizeBits, fromTileMove, fromTileBits, arrayMove, arrayBits};
+ghost use Rattle.encoding.specs.Steps.{sizeBits, fromTileMove, fromTileBits, arrayMove, arrayBits, accessMove, accessBits};
 ghost use Rattle.encoder.specs.Steps.{offsetCount};
 use encoding::Direction;
 use encoding::ElementSize;
@@ -39,13 +39,18 @@ pub fn encode(operation: Operation) -> Encoded
         Operation::St1(o) => {
             let size = o.size;
             let direction = o.direction;
-            encode_store(size, direction, o.rs, o.pg, o.rn, o.rm, o.zat, o.imm)
+            encode_access(true, size, direction, o.rs, o.pg, o.rn, o.rm, o.zat, o.imm)
         }
         Operation::MovaFromTile(o) => {
             let w = o.whole;
             let size = w.size;
             let direction = w.direction;
             encode_from_tile(false, o.pg, size, direction, w.rs, w.zan, w.off, w.zd)
+        }
+        Operation::Ld1(o) => {
+            let size = o.size;
+            let direction = o.direction;
+            encode_access(false, size, direction, o.rs, o.pg, o.rn, o.rm, o.zat, o.imm)
         }
     }
 }
@@ -178,8 +183,22 @@ fn encode_array(zeroes: bool, registers: RegisterCount, rv: u8, off: u8, zd: u8)
     )
 }
 
-// A store: so far the table has a row for bytes only.
-fn encode_store(
+// Bits 31 to 21 of the word of a load or store: size, and whether it stores.
+fn access_bits(stores: bool, size: ElementSize) -> u32
+    ensures { λ r. ⌜ (r ≡ accessBits stores size) × (r < 2048) ⌝ }
+{
+    match size {
+        ElementSize::Bits8 => if stores { 0x701 } else { 0x700 },
+        ElementSize::Bits16 => if stores { 0x703 } else { 0x702 },
+        ElementSize::Bits32 => if stores { 0x705 } else { 0x704 },
+        ElementSize::Bits64 => if stores { 0x707 } else { 0x706 },
+        ElementSize::Bits128 => if stores { 0x70F } else { 0x70E },
+    }
+}
+
+// A store or a load.
+fn encode_access(
+    stores: bool,
     size: ElementSize,
     direction: Direction,
     rs: u8,
@@ -189,11 +208,8 @@ fn encode_store(
     zat: u8,
     imm: u8,
 ) -> Encoded
-    ensures { λ r. ⌜ Encodes (Operation.St1 (record { size = size; direction = direction; rs = rs; pg = pg; rn = rn; rm = rm; zat = zat; imm = imm })) r ⌝ }
+    ensures { λ r. ⌜ Encodes (accessMove stores (record { size = size; direction = direction; rs = rs; pg = pg; rn = rn; rm = rm; zat = zat; imm = imm })) r ⌝ }
 {
-    if size.bytes() != 1 {
-        return Encoded::OutOfRange;
-    }
     if rs < 12 {
         return Encoded::OutOfRange;
     }
@@ -209,20 +225,20 @@ fn encode_store(
     if 31 < rm {
         return Encoded::OutOfRange;
     }
-    if 0 < zat {
+    if size.bytes() <= zat {
         return Encoded::OutOfRange;
     }
-    if 15 < imm {
+    if offset_count(size) <= imm {
         return Encoded::OutOfRange;
     }
     Encoded::Word(
-        0xE0200000
+        access_bits(stores, size) * 2097152
             + rm as u32 * 65536
             + direction.number() as u32 * 32768
             + (rs - 12) as u32 * 8192
             + pg as u32 * 1024
             + rn as u32 * 32
-            + imm as u32,
+            + shared_bits(size, zat, imm),
     )
 }
 

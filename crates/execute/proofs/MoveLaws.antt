@@ -55,20 +55,20 @@ group-within B r w {count} {g} h e f j below =
 pub registers-within : (B r count : ℕ) → r + count ≤ 32 → r * B + count * B ≤ 32 * B
 registers-within B r count h = omega (arith, mul-le-mul-right B h, add-mul r count B)
 
--- ---- what the leaves write is what the definitions say, with the slice s of n that the code selected
+-- ---- what the leaves write is what the definitions say, with the slice s that the code selected
 
-module _ (B : ℕ) (x p z za : List ℕ) {n s : ℕ} where
-  pub moved-to-tile : (o : VectorToTile) → n ≡ B / bytesOf (o .size) → s ≡ (getD x (o .rs) 0 % 2 ^ 32 + o .off) % n → scatter (sliceAt B (bytesOf (o .size)) (o .zad) (o .direction) s) (active p (o .pg * (B / 8)) (bytesOf (o .size))) (λ (k : ℕ). getD z (o .zn * B + k) 0) B za ≡ movedToTile B B x p o z za
+module _ (B : ℕ) (x p z za : List ℕ) {s : ℕ} where
+  pub moved-to-tile : (o : VectorToTile) → s ≡ (getD x (o .rs) 0 % 2 ^ 32 + o .off) % (B / bytesOf (o .size)) → scatter (sliceAt B (bytesOf (o .size)) (o .zad) (o .direction) s) (active p (o .pg * (B / 8)) (bytesOf (o .size))) (λ (k : ℕ). getD z (o .zn * B + k) 0) B za ≡ movedToTile B B x p o z za
   unfolding movedToTile
-  moved-to-tile o e f = rw (f, e)
+  moved-to-tile o f = rw f
 
-  pub taken-from-tile : (on : ℕ → Bool) (o : TileToVector) → n ≡ B / bytesOf (o .size) → s ≡ (getD x (o .rs) 0 % 2 ^ 32 + o .off) % n → scatter (from (o .zd * B)) on (λ (k : ℕ). getD za (sliceAt B (bytesOf (o .size)) (o .zan) (o .direction) s k) 0) B z ≡ takenFromTile B B x p on o z za
+  pub taken-from-tile : (on : ℕ → Bool) (o : TileToVector) → s ≡ (getD x (o .rs) 0 % 2 ^ 32 + o .off) % (B / bytesOf (o .size)) → scatter (from (o .zd * B)) on (λ (k : ℕ). getD za (sliceAt B (bytesOf (o .size)) (o .zan) (o .direction) s k) 0) B z ≡ takenFromTile B B x p on o z za
   unfolding takenFromTile
-  taken-from-tile on o e f = rw (f, e)
+  taken-from-tile on o f = rw f
 
-  pub zeroed-in-tile : (o : TileToVector) → n ≡ B / bytesOf (o .size) → s ≡ (getD x (o .rs) 0 % 2 ^ 32 + o .off) % n → scatter (sliceAt B (bytesOf (o .size)) (o .zan) (o .direction) s) all zeros B za ≡ zeroedInTile B B x p o za
+  pub zeroed-in-tile : (o : TileToVector) → s ≡ (getD x (o .rs) 0 % 2 ^ 32 + o .off) % (B / bytesOf (o .size)) → scatter (sliceAt B (bytesOf (o .size)) (o .zan) (o .direction) s) all zeros B za ≡ zeroedInTile B B x p o za
   unfolding zeroedInTile
-  zeroed-in-tile o e f = rw (f, e)
+  zeroed-in-tile o f = rw f
 
 -- registers one after another are a run of bytes
 register-run : (B r : ℕ) → from (r * B) ≡ (λ (k : ℕ). (r + k / B) * B + k % B)

@@ -7,22 +7,22 @@ use mathlib.Core.List.{List}
 use mathlib.Core.Logic.{_⊎_, inl, inr}
 use native.Mathlib.Omega.{arith}
 use lib.ListN.{length}
-use Rattle.settings.specs.Settings.{validSettings}
+use Rattle.settings.specs.Settings.{validSettings, zaBytes}
 use Rattle.settings.specs.declared.Settings.{Settings}
 use Rattle.encoding.specs.Codec.{decodeOf}
-use Rattle.encoding.specs.Range.{StoreInRange}
-use Rattle.encoding.specs.declared.operation.TileToMemory.{TileToMemory}
+use Rattle.encoding.specs.Range.{AccessInRange}
+use Rattle.encoding.specs.declared.operation.SliceAccess.{SliceAccess}
 use Rattle.encoding.specs.declared.operation.Operation.{Operation}
-use Rattle.encoding.specs.declared.operation.Operation.the-variants.{St1}
+use Rattle.encoding.specs.declared.operation.Operation.the-variants.{St1, Ld1}
 use Rattle.encoding.specs.declared.operation.Decoded.{Decoded}
 use Rattle.encoding.specs.declared.operation.Decoded.the-variants as decoded
 use Rattle.execution.specs.declared.answer.Executed.{Executed}
 use Rattle.execution.specs.declared.answer.Executed.the-variants.{Done, BadSettings, BadLengths, Undecodable, StreamingOff, ZaOff}
 use Rattle.execute.specs.declared.check.Buffers.the-variants as check
 use Rattle.execution.specs.Answer.{executedNumber, executedAddress}
-use Rattle.execution.specs.Effect.{State, effectOf}
+use Rattle.execution.specs.Effect.{State, stored, loaded, effectOf}
 use Rattle.execution.specs.Execute.{guard, strideOf, validLengths, operationAnswer, decodedAnswer, answerOf, decodedEffect, ifDone, executeOf}
-use Rattle.store.specs.Promise.{StoreReady, Stores}
+use Rattle.access.specs.Promise.{AccessReady, Accesses}
 use Rattle.execute.specs.Promise.{Executes, pickBuffers, checkOf, Performs, Ready, Sized}
 use Rattle.execute.proofs.CheckLaws.{vector-valid}
 use Rattle.execution.proofs.ExecuteLaws.{Refusal, refusal-settings, refusal-lengths, refusal-undecodable, refusal-streaming, refusal-za, refused-stays, answered, lengths-facts}
@@ -51,10 +51,10 @@ module _ (s : Settings) (x p : List ℕ) (t : State) where
       let l = lengths-facts s (length x) (length (t .z)) (length p) (length (t .za)) (length (t .memory)) (h .lengths) in
       record { vector = vector-valid s (h .settings); x = l .x; z = l .z; p = l .p; za = l .za }
 
-  pub store-ready : (o : TileToMemory) → Ready s x p t → StoreInRange o → StoreReady s (length x) (length p) (length (t .za)) (length (t .memory)) o
-  store-ready o h range =
+  pub access-ready : (o : SliceAccess) → Ready s x p t → AccessInRange o → AccessReady s (length x) (length p) (length (t .memory)) o × (length (t .za) ≡ zaBytes (s .«vector_bytes»))
+  access-ready o h range =
       let l = lengths-facts s (length x) (length (t .z)) (length p) (length (t .za)) (length (t .memory)) (h .lengths) in
-      record { vector = vector-valid s (h .settings); x = l .x; p = l .p; za = l .za; memory = l .memory; range = range }
+      (record { vector = vector-valid s (h .settings); x = l .x; p = l .p; memory = l .memory; range = range }, l .za)
 
   pub ready : checkOf s (length x) (length (t .z)) (length p) (length (t .za)) (length (t .memory)) ≡ check.Valid → Ready s x p t
   ready e =
@@ -67,17 +67,27 @@ module _ (s : Settings) (x p : List ℕ) (t : State) where
   pub done-performs : (op o : Operation) (t′ : State) → op ≡ o → operationAnswer s x p (length (t .memory)) o ≡ Done → t′ .z ≡ effectOf (strideOf s) (s .«vector_bytes») x p (s .«memory_address») o t .z → t′ .za ≡ effectOf (strideOf s) (s .«vector_bytes») x p (s .«memory_address») o t .za → t′ .memory ≡ effectOf (strideOf s) (s .«vector_bytes») x p (s .«memory_address») o t .memory → Performs s x p op t Done t′
   done-performs op o t′ e ans z za memory = rw e (record { answer = sym ans; z = z; za = za; memory = memory })
 
-  -- a store changes memory alone, and only if it is done
-  pub store-performs : (op : Operation) (o : TileToMemory) (r : Executed) (memory′ : List ℕ) → op ≡ St1 o → Stores s x p (t .za) (t .memory) o r memory′ → Performs s x p op t r (record { z = t .z; za = t .za; memory = memory′ })
-  store-performs op o r memory′ e h = rw e (go (answered r))
+  -- an operation that may be refused: its answer, and buffers that are those of its effect if it is done, and unchanged if not
+  by-answer : (o : Operation) (r : Executed) (t′ : State) → r ≡ operationAnswer s x p (length (t .memory)) o → (r ≡ Done → t′ ≡ effectOf (strideOf s) (s .«vector_bytes») x p (s .«memory_address») o t) → (Refusal r → t′ ≡ t) → Performs s x p o t r t′
+  by-answer o r t′ e done refused = go (answered r)
     where
-      go : (r ≡ Done) ⊎ Refusal r → Performs s x p (St1 o) t r (record { z = t .z; za = t .za; memory = memory′ })
-      go (inl q) =
-          let done = ap (λ (a : Executed). ifDone a t (effectOf (strideOf s) (s .«vector_bytes») x p (s .«memory_address») (St1 o) t)) q in
-          record { answer = h .answer; z = sym (ap (λ (u : State). u .z) done); za = sym (ap (λ (u : State). u .za) done); memory = h .done q ∙ sym (ap (λ (u : State). u .memory) done) }
-      go (inr n) =
-          let kept = refused-stays r t (effectOf (strideOf s) (s .«vector_bytes») x p (s .«memory_address») (St1 o) t) n in
-          record { answer = h .answer; z = sym (ap (λ (u : State). u .z) kept); za = sym (ap (λ (u : State). u .za) kept); memory = h .refused n ∙ sym (ap (λ (u : State). u .memory) kept) }
+      after : t′ ≡ ifDone r t (effectOf (strideOf s) (s .«vector_bytes») x p (s .«memory_address») o t) → Performs s x p o t r t′
+      after q = record { answer = e; z = ap (λ (u : State). u .z) q; za = ap (λ (u : State). u .za) q; memory = ap (λ (u : State). u .memory) q }
+
+      go : (r ≡ Done) ⊎ Refusal r → Performs s x p o t r t′
+      go (inl q) = after (done q ∙ sym (ap (λ (a : Executed). ifDone a t (effectOf (strideOf s) (s .«vector_bytes») x p (s .«memory_address») o t)) q))
+      go (inr n) = after (refused n ∙ sym (refused-stays r t (effectOf (strideOf s) (s .«vector_bytes») x p (s .«memory_address») o t) n))
+
+  -- a store changes memory alone, and a load ZA alone, and only if it is done
+  pub store-performs : (op : Operation) (o : SliceAccess) (r : Executed) (memory′ : List ℕ) → op ≡ St1 o → Accesses s x p (length (t .memory)) o r (t .memory) (stored (strideOf s) (s .«vector_bytes») x p o (s .«memory_address») (t .za) (t .memory)) memory′ → Performs s x p op t r (record { z = t .z; za = t .za; memory = memory′ })
+  store-performs op o r memory′ e h =
+      let with-memory : List ℕ → State = λ m. record { z = t .z; za = t .za; memory = m } in
+      rw e (by-answer (St1 o) r _ (h .answer) (λ q. ap with-memory (h .done q)) (λ n. ap with-memory (h .refused n)))
+
+  pub load-performs : (op : Operation) (o : SliceAccess) (r : Executed) (za′ : List ℕ) → op ≡ Ld1 o → Accesses s x p (length (t .memory)) o r (t .za) (loaded (strideOf s) (s .«vector_bytes») x p o (s .«memory_address») (t .memory) (t .za)) za′ → Performs s x p op t r (record { z = t .z; za = za′; memory = t .memory })
+  load-performs op o r za′ e h =
+      let with-za : List ℕ → State = λ a. record { z = t .z; za = a; memory = t .memory } in
+      rw e (by-answer (Ld1 o) r _ (h .answer) (λ q. ap with-za (h .done q)) (λ n. ap with-za (h .refused n)))
 
   module _ (w : ℕ) where
     -- ---- one word

@@ -28,7 +28,7 @@ fn group_of(registers: RegisterCount, index: u64, offset: u8, vector_bytes: usiz
     ensures { λ r. ⌜ r ≡ groupOf «vector_bytes» (registersOf registers) ((index % 2 ^ 32 + offset) % («vector_bytes» / registersOf registers)) ⌝ }
 {
     let stride = group_stride(vector_bytes, registers);
-    let first = store::selected(index, offset, stride);
+    let first = access::selected(index, offset, stride);
     moves::vector_group(first, stride)
 }
 

@@ -34,7 +34,7 @@ pub(crate) fn perform(
     operate(operation, settings, x, z, p, za, memory)
 }
 
-// Performs a decoded operation; a store may still be refused.
+// Performs a decoded operation; a load or store may still be refused.
 fn operate(
     operation: Operation,
     settings: Settings,
@@ -65,10 +65,11 @@ fn operate(
             array::take_from_array(true, o, vector_bytes, x, z, p, za);
             Executed::Done
         }
-        Operation::St1(o) => store::store(o, settings, x, p, za, memory),
+        Operation::St1(o) => access::store(o, settings, x, p, za, memory),
         Operation::MovaFromTile(o) => {
             tile::move_from_tile(o, vector_bytes, x, z, p, za);
             Executed::Done
         }
+        Operation::Ld1(o) => access::load(o, settings, x, p, za, memory),
     }
 }

@@ -5,10 +5,10 @@ ghost use Rattle.encoding.specs.Range.{ToTileInRange, FromTileInRange, Predicat
 ghost use Rattle.tiles.specs.Scatter.{all};
 ghost use Rattle.execution.specs.Effect.{activeUnder, movedToTile, takenFromTile, zeroedInTile};
 ghost use Rattle.execute.specs.Promise.{Sized};
+use access::slice_number;
 use encoding::PredicatedTileToVector;
 use encoding::TileToVector;
 use encoding::VectorToTile;
-use store::selected;
 
 // Copies the active elements of a vector register to a slice of a tile.
 pub(crate) fn move_to_tile(
@@ -24,7 +24,7 @@ pub(crate) fn move_to_tile(
 {
     let size = operation.size;
     let direction = operation.direction;
-    let n = slices::elements_in(vector_bytes, size);
+    let slice = slice_number(x, operation.rs, operation.off, vector_bytes, size);
     slices::move_to_slice(
         za,
         z,
@@ -34,7 +34,7 @@ pub(crate) fn move_to_tile(
         size,
         operation.zad as usize,
         direction,
-        selected(x[operation.rs as usize], operation.off, n),
+        slice,
         operation.zn as usize * vector_bytes,
         operation.pg as usize * (vector_bytes / 8),
     );
@@ -55,7 +55,7 @@ pub(crate) fn take_from_tile(
 {
     let size = operation.size;
     let direction = operation.direction;
-    let n = slices::elements_in(vector_bytes, size);
+    let slice = slice_number(x, operation.rs, operation.off, vector_bytes, size);
     slices::take_slice(
         za,
         z,
@@ -64,7 +64,7 @@ pub(crate) fn take_from_tile(
         size,
         operation.zan as usize,
         direction,
-        selected(x[operation.rs as usize], operation.off, n),
+        slice,
         operation.zd as usize * vector_bytes,
     );
 }
@@ -84,7 +84,7 @@ pub(crate) fn move_from_tile(
     let whole = operation.whole;
     let size = whole.size;
     let direction = whole.direction;
-    let n = slices::elements_in(vector_bytes, size);
+    let slice = slice_number(x, whole.rs, whole.off, vector_bytes, size);
     slices::merge_from_slice(
         z,
         whole.zd as usize * vector_bytes,
@@ -95,7 +95,7 @@ pub(crate) fn move_from_tile(
         size,
         whole.zan as usize,
         direction,
-        selected(x[whole.rs as usize], whole.off, n),
+        slice,
         operation.pg as usize * (vector_bytes / 8),
     );
 }

@@ -3,7 +3,7 @@
 // vector registers. A number that a kind does not have is 0. (specs/Flat.antt of the crate encoding lists them by kind.)
 ghost use mathlib.Core.Path.{_≡_};
 ghost use mathlib.Core.List.{[], _∷_};
-ghost use Rattle.encoding.specs.Flat.{bytesOf, directionNumber, flatOf, tileToVectorOf, arrayToVectorsOf, operationOf};
+ghost use Rattle.encoding.specs.Flat.{bytesOf, directionNumber, flatOf, tileToVectorOf, arrayToVectorsOf, sliceAccessOf, operationOf};
 ghost use Rattle.encoding.specs.Codec.{Unflattens, encodeFlatOf};
 use encoding::ArrayToVectors;
 use encoding::Direction;
@@ -12,7 +12,7 @@ use encoding::Encoded;
 use encoding::Operation;
 use encoding::PredicatedTileToVector;
 use encoding::RegisterCount;
-use encoding::TileToMemory;
+use encoding::SliceAccess;
 use encoding::TileToVector;
 use encoding::Unflattened;
 use encoding::VectorToTile;
@@ -40,30 +40,36 @@ pub fn flatten(operation: Operation) -> [u8; 11]
             let registers = o.registers;
             [4, 0, 0, 0, o.off, o.rv, 0, o.zd, 0, 0, registers.number()]
         }
-        Operation::St1(o) => {
-            let size = o.size;
-            let direction = o.direction;
-            tile_numbers(
-                5,
-                size,
-                direction,
-                o.zat,
-                o.imm,
-                o.rs,
-                o.pg,
-                0,
-                o.rn,
-                o.rm,
-                0,
-            )
-        }
+        Operation::St1(o) => access_numbers(5, o),
         Operation::MovaFromTile(o) => {
             let w = o.whole;
             let size = w.size;
             let direction = w.direction;
             tile_numbers(6, size, direction, w.zan, w.off, w.rs, o.pg, w.zd, 0, 0, 1)
         }
+        Operation::Ld1(o) => access_numbers(7, o),
     }
+}
+
+// The eleven numbers of a load or store.
+fn access_numbers(kind: u8, o: SliceAccess) -> [u8; 11]
+    ensures { λ r. ⌜ r ≡ kind ∷ bytesOf (o .size) ∷ directionNumber (o .direction) ∷ o .zat ∷ o .imm ∷ o .rs ∷ o .pg ∷ 0 ∷ o .rn ∷ o .rm ∷ 0 ∷ [] ⌝ }
+{
+    let size = o.size;
+    let direction = o.direction;
+    tile_numbers(
+        kind,
+        size,
+        direction,
+        o.zat,
+        o.imm,
+        o.rs,
+        o.pg,
+        0,
+        o.rn,
+        o.rm,
+        0,
+    )
 }
 
 // The eleven numbers of an operation on a tile's slice, size and direction by their numbers.
@@ -142,20 +148,12 @@ fn operation_of(numbers: &[u8; 11]) -> Operation
         2 => Operation::MovazFromTile(tile_to_vector_of(numbers)),
         3 => Operation::MovaFromArray(array_to_vectors_of(numbers)),
         4 => Operation::MovazFromArray(array_to_vectors_of(numbers)),
-        5 => Operation::St1(TileToMemory {
-            size: size,
-            direction: direction,
-            rs: numbers[5],
-            pg: numbers[6],
-            rn: numbers[8],
-            rm: numbers[9],
-            zat: numbers[3],
-            imm: numbers[4],
-        }),
-        _ => Operation::MovaFromTile(PredicatedTileToVector {
+        5 => Operation::St1(slice_access_of(numbers)),
+        6 => Operation::MovaFromTile(PredicatedTileToVector {
             pg: numbers[6],
             whole: tile_to_vector_of(numbers),
         }),
+        _ => Operation::Ld1(slice_access_of(numbers)),
     }
 }
 
@@ -182,6 +180,22 @@ fn array_to_vectors_of(numbers: &[u8; 11]) -> ArrayToVectors
         rv: numbers[5],
         off: numbers[4],
         zd: numbers[7],
+    }
+}
+
+// The load or store of a tile slice in the eleven numbers.
+fn slice_access_of(numbers: &[u8; 11]) -> SliceAccess
+    ensures { λ r. ⌜ r ≡ sliceAccessOf (now (numbers .entry)) ⌝ }
+{
+    SliceAccess {
+        size: ElementSize::of_bytes(numbers[1]),
+        direction: Direction::of_number(wide(numbers[2])),
+        rs: numbers[5],
+        pg: numbers[6],
+        rn: numbers[8],
+        rm: numbers[9],
+        zat: numbers[3],
+        imm: numbers[4],
     }
 }
 

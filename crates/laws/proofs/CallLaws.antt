@@ -7,11 +7,11 @@ use mathlib.Core.Option.{Option, none, some}
 use native.Mathlib.Omega.{arith}
 use lib.ListN.{length}
 use Rattle.encoding.specs.declared.operation.Operation.{Operation}
-use Rattle.encoding.specs.declared.operation.Operation.the-variants.{MovaToTile, MovazFromTile, MovaFromArray, MovazFromArray, St1, MovaFromTile}
+use Rattle.encoding.specs.declared.operation.Operation.the-variants.{MovaToTile, MovazFromTile, MovaFromArray, MovazFromArray, St1, MovaFromTile, Ld1}
 use Rattle.tiles.proofs.ScatterLaws.{length-scatter}
 use Rattle.execution.specs.declared.answer.Executed.{Executed}
 use Rattle.execution.specs.declared.answer.Executed.the-variants.{Done, BadSettings, BadLengths, Undecodable, StreamingOff, ZaOff, StackMisaligned, OutsideMemory}
-use Rattle.execution.specs.Effect.{State, movedToTile, zeroedInTile, zeroedInArray, effectOf}
+use Rattle.execution.specs.Effect.{State, movedToTile, zeroedInTile, zeroedInArray, loaded, effectOf}
 use Rattle.execution.proofs.ExecuteLaws.{Refusal, Does, Ends, does, stays, ends}
 use Rattle.laws.specs.Calls.{Call, stateWith, outcome, zaAfter, run, Move, decodedOf, moveOf, decodedMove, ifDoneMove, moved, withMove, moves}
 
@@ -67,13 +67,14 @@ has-move c za m e = go (call-ends c za)
 
 -- a call keeps ZA's length
 za-long : (S B a : ℕ) (x p : List ℕ) (o : Operation) (t : State) → length (effectOf S B x p a o t .za) ≡ length (t .za)
-unfolding movedToTile zeroedInTile zeroedInArray
+unfolding movedToTile zeroedInTile zeroedInArray loaded
 za-long S B a x p (MovaToTile o) t = length-scatter _ _ _ _ _
 za-long S B a x p (MovazFromTile o) t = length-scatter _ _ _ _ _
 za-long S B a x p (MovaFromArray o) t = refl
 za-long S B a x p (MovazFromArray o) t = length-scatter _ _ _ _ _
 za-long S B a x p (St1 o) t = refl
 za-long S B a x p (MovaFromTile o) t = refl
+za-long S B a x p (Ld1 o) t = length-scatter _ _ _ _ _
 
 pub call-long : (c : Call) (za : List ℕ) → length (zaAfter c za) ≡ length za
 call-long c za = go (call-ends c za)

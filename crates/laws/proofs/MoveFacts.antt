@@ -13,7 +13,7 @@ use Rattle.encoding.specs.Flat.{bytesOf}
 use Rattle.encoding.specs.declared.operation.ElementSize.{ElementSize}
 use Rattle.encoding.specs.declared.operation.Direction.{Direction}
 use Rattle.encoding.specs.declared.operation.Operation.{Operation}
-use Rattle.encoding.specs.declared.operation.Operation.the-variants.{MovaToTile, MovazFromTile, MovaFromArray, MovazFromArray, St1, MovaFromTile}
+use Rattle.encoding.specs.declared.operation.Operation.the-variants.{MovaToTile, MovazFromTile, MovaFromArray, MovazFromArray, St1, MovaFromTile, Ld1}
 use Rattle.encoding.proofs.RangeLaws.{decoded-in-range}
 use Rattle.tiles.specs.Scatter.{scatter, all, zeros, from}
 use Rattle.tiles.specs.Predicate.{active}
@@ -83,6 +83,7 @@ module _ (c : Call) (za : List ℕ) where
   facts (MovazFromArray o) d = tt
   facts (St1 o) d = tt
   facts (MovaFromTile o) d = tt
+  facts (Ld1 o) d = tt
 
   pub into-call : (S B : ℕ) (size : ElementSize) (d : Direction) (t k : ℕ) → moved c za ≡ some (into S B size d t k) → Into S B size d t k
   into-call S B size d t k e = let h = has-move c za (into S B size d t k) e in subst Facts (sym (h .same)) (facts (h .operation) (h .does))

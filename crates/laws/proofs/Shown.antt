@@ -15,8 +15,8 @@ use Rattle.encoding.specs.declared.operation.Direction.the-variants.{Horizontal
 use Rattle.tiles.specs.Predicate.{active}
 use Rattle.execution.specs.declared.answer.Executed.{Executed}
 use Rattle.execution.specs.Answer.{executedNumber}
-use Rattle.execution.specs.Store.{least}
-use Rattle.execution.specs.Execute.{storeAnswer, answerOf, executeOf}
+use Rattle.execution.specs.Access.{least}
+use Rattle.execution.specs.Execute.{accessAnswer, answerOf, executeOf}
 use Rattle.execution.specs.ExampleBuffers.{zaAt}
 use Rattle.execution.proofs.ExecuteLaws.{Refusal}
 use Rattle.laws.specs.Calls.{Call, run, numbersAt}
@@ -26,7 +26,7 @@ use Rattle.laws.proofs.CallLaws.{run-long, cons-same, nil-cons}
 use Rattle.laws.proofs.Exhibit.{lists-exist, refused-may-stand}
 
 pub refusals-shown : RefusalsShown
-unfolding table rowOfWord decodeOf isVectorLength active least storeAnswer answerOf executeOf
+unfolding table rowOfWord decodeOf isVectorLength active least accessAnswer answerOf executeOf
 refusals-shown za e = rw e refl
 
 -- ---- calls that are refused at every ZA of a length
@@ -74,4 +74,4 @@ list-shown =
     (put (shownIn ++ shownOut) [] plain))
   where
     put : (before after : List Call) → Crosses 32 32 Bits32 Horizontal 1 (before ++ after) (zaAt 32) → Crosses 32 32 Bits32 Horizontal 1 (before ++ (refusedCalls ++ after)) (zaAt 32)
-    put before after h = put-in 32 32 Bits32 Horizontal 1 before after (zaAt 32) refusedCalls (0 ∷ 1 ∷ 2 ∷ 3 ∷ 4 ∷ 5 ∷ 6 ∷ []) refusals-shown h
+    put before after h = put-in 32 32 Bits32 Horizontal 1 before after (zaAt 32) refusedCalls (0 ∷ 1 ∷ 2 ∷ 3 ∷ 4 ∷ 5 ∷ 6 ∷ 5 ∷ 6 ∷ []) refusals-shown h

@@ -1,19 +1,31 @@
--- Calls that may run between those of a crossing list: a store, a move from a tile under a predicate and an array move without
--- zeroing leave ZA as it was, whatever their answer, so the calls after them meet the same ZA. An array move and zero that is done
--- writes ZA and may not.
+-- Calls that may run between those of a crossing list: a store of any size, a move from a tile under a predicate and an array move
+-- without zeroing leave ZA as it was, whatever their answer, so the calls after them meet the same ZA. An array move and zero that is done
+-- writes ZA and may not; nor may a load that is done, which sets the inactive elements of its slice to zero, and which no crossing list has
+-- among its calls.
 -- Assumes nothing.
-use Prim.Native.Nat.{ℕ}
+use Prim.Native.Nat.{ℕ, _*_, _/_, _<_}
 use mathlib.Core.Path.{_≡_}
+use mathlib.Core.Bool.{false}
 use mathlib.Core.List.{List, [], _∷_, _++_, map}
-use lib.ListN.{getD, replicate}
-use Rattle.encoding.specs.declared.operation.ElementSize.the-variants.{Bits8}
+use lib.ListN.{getD, set, replicate}
+use Rattle.encoding.specs.Flat.{bytesOf}
+use Rattle.encoding.specs.declared.operation.ElementSize.{ElementSize}
+use Rattle.encoding.specs.declared.operation.ElementSize.the-variants.{Bits8, Bits16, Bits32, Bits64, Bits128}
+use Rattle.encoding.specs.declared.operation.Direction.{Direction}
 use Rattle.encoding.specs.declared.operation.Direction.the-variants.{Horizontal}
+use Rattle.encoding.specs.declared.operation.SliceAccess.{SliceAccess}
 use Rattle.encoding.specs.declared.operation.RegisterCount.the-variants.{Two, Four}
 use Rattle.encoding.specs.declared.operation.Operation.{Operation}
-use Rattle.encoding.specs.declared.operation.Operation.the-variants.{MovaToTile, MovazFromTile, MovaFromArray, MovazFromArray, St1, MovaFromTile}
+use Rattle.encoding.specs.declared.operation.Operation.the-variants.{MovaToTile, MovazFromTile, MovaFromArray, MovazFromArray, St1, MovaFromTile, Ld1}
 use Rattle.encoding.specs.declared.operation.Decoded.the-variants.{Done}
-use Rattle.execution.specs.ExampleBuffers.{settingsAt, zAt, zaAt, memoryOf, ones}
-use Rattle.laws.specs.Calls.{Call, zaAfter, run, numbersAt, decodedOf}
+use Rattle.tiles.specs.Predicate.{bit}
+use Rattle.tiles.specs.Tile.{byteOf}
+use Rattle.execution.specs.declared.answer.Executed.the-variants as executed
+use Rattle.execution.specs.Effect.{sliceAccessed}
+use Rattle.execution.specs.Execute.{strideOf}
+use Rattle.execution.specs.ExampleBuffers.{settingsAt, zAt, zaAt, memoryOf, ones, predicate0}
+use Rattle.laws.specs.Calls.{Call, outcome, zaAfter, run, numbersAt, decodedOf}
+use Rattle.laws.specs.Crossing.{Crosses}
 
 -- operations that do not write ZA
 abbrev pub Beside : Operation → Type 0
@@ -23,6 +35,7 @@ Beside (MovaFromArray o) = Unit {0}
 Beside (MovazFromArray o) = ⊥
 Beside (St1 o) = Unit {0}
 Beside (MovaFromTile o) = Unit {0}
+Beside (Ld1 o) = ⊥
 
 abbrev pub BesideKeepsZa : Type 0
 BesideKeepsZa = (c : Call) (za : List ℕ) (o : Operation) → decodedOf c ≡ Done o → Beside o → zaAfter c za ≡ za
@@ -33,21 +46,38 @@ BesideMayRun =
     (before after : List Call) (c : Call) (za : List ℕ) (o : Operation) → decodedOf c ≡ Done o → Beside o →
     run (before ++ c ∷ after) za ≡ run (before ++ after) za
 
+-- a load that is done leaves zero in every byte of an inactive element of its slice: in all of them where none is active
+abbrev pub LoadsZero : Type 0
+LoadsZero =
+    (c : Call) (za : List ℕ) (o : SliceAccess) (e i : ℕ) → decodedOf c ≡ Done (Ld1 o) → outcome c za .answer ≡ executed.Done →
+    let S = strideOf (c .settings) in let B = c .settings .«vector_bytes» in let m = bytesOf (o .size) in
+    e < B / m → i < m → bit (c .p) (o .pg * (S / 8)) (e * m) ≡ false →
+    getD (zaAfter c za) (byteOf S m (o .zat) (o .direction) (sliceAccessed S B (c .x) (c .p) o) e i) 0 ≡ 0
+
+-- no load that is done is a call of a crossing list
+abbrev pub LoadsStayOut : Type 0
+LoadsStayOut =
+    (S B : ℕ) (size : ElementSize) (d : Direction) (t : ℕ) (before after : List Call) (c : Call) (za : List ℕ) (o : SliceAccess) →
+    decodedOf c ≡ Done (Ld1 o) → outcome c (run before za) .answer ≡ executed.Done → Crosses S B size d t (before ++ c ∷ after) za → ⊥
+
 -- ---- such calls, and calls that may not, at vectors of 16 bytes
 
 abbrev pub callOf : ℕ → Call
 callOf w = record { settings = settingsAt 16 0; word = w; x = replicate 32 0; z = zAt 16; p = ones 16; memory = memoryOf 16 }
 
--- from a tile under a predicate, two and four of the array, a store
+-- from a tile under a predicate, two and four of the array, a store of each size
 abbrev pub besideCalls : List Call
-besideCalls = map callOf (0xC0020000 ∷ 0xC0060800 ∷ 0xC0060C00 ∷ 0xE0220020 ∷ [])
+besideCalls = map callOf (0xC0020000 ∷ 0xC0060800 ∷ 0xC0060C00 ∷ 0xE0220020 ∷ 0xE0620020 ∷ 0xE0A20020 ∷ 0xE0E20020 ∷ 0xE1E20020 ∷ [])
+
+abbrev pub stores : ElementSize → Operation
+stores size = St1 (record { size = size; direction = Horizontal; rs = 12; pg = 0; rn = 1; rm = 2; zat = 0; imm = 0 })
 
 abbrev pub besideOperations : List Operation
 besideOperations =
     MovaFromTile (record { pg = 0; whole = record { size = Bits8; direction = Horizontal; rs = 12; zan = 0; off = 0; zd = 0 } }) ∷
     MovaFromArray (record { registers = Two; rv = 8; off = 0; zd = 0 }) ∷
     MovaFromArray (record { registers = Four; rv = 8; off = 0; zd = 0 }) ∷
-    St1 (record { size = Bits8; direction = Horizontal; rs = 12; pg = 0; rn = 1; rm = 2; zat = 0; imm = 0 }) ∷ []
+    map stores (Bits8 ∷ Bits16 ∷ Bits32 ∷ Bits64 ∷ Bits128 ∷ [])
 
 abbrev pub AllBeside : List Operation → Type 0
 AllBeside [] = Unit {0}
@@ -55,7 +85,7 @@ AllBeside (o ∷ os) = Beside o × AllBeside os
 
 -- they are done, are of the operations listed, and these are all of those that do not write ZA
 pub record BesideShown : Type 0 where
-  pub done : numbersAt besideCalls (zaAt 16) ≡ replicate 4 0
+  pub done : numbersAt besideCalls (zaAt 16) ≡ replicate 8 0
   pub decoded : map decodedOf besideCalls ≡ map Done besideOperations
   pub may : AllBeside besideOperations
 
@@ -67,3 +97,16 @@ pub record ZeroingWrites : Type 0 where
   pub done : numbersAt zeroingCalls (zaAt 16) ≡ replicate 2 0
   pub before : getD (zaAt 16) 0 0 ≡ 178
   pub after : map (λ (c : Call). getD (zaAfter c (zaAt 16)) 0 0) zeroingCalls ≡ replicate 2 0
+
+-- a load of each size under a predicate with no active element, whose base is a stack pointer that is no multiple of 16, and one of bytes with
+-- all of them active: they are done and change ZA's first byte, to zero and to memory's first
+abbrev pub idleCall : ℕ → Call
+idleCall w = record { settings = settingsAt 16 0; word = w; x = set (replicate 32 0) 31 8; z = zAt 16; p = predicate0 16 (0 ∷ 0 ∷ []); memory = memoryOf 16 }
+
+abbrev pub loadCalls : List Call
+loadCalls = callOf 0xE0020020 ∷ map idleCall (0xE01F03E0 ∷ 0xE05F03E0 ∷ 0xE09F03E0 ∷ 0xE0DF03E0 ∷ 0xE1DF03E0 ∷ [])
+
+pub record LoadsWrite : Type 0 where
+  pub done : numbersAt loadCalls (zaAt 16) ≡ replicate 6 0
+  pub before : (getD (zaAt 16) 0 0 ≡ 178) × (getD (memoryOf 16) 0 0 ≡ 146)
+  pub after : map (λ (c : Call). getD (zaAfter c (zaAt 16)) 0 0) loadCalls ≡ 146 ∷ replicate 5 0

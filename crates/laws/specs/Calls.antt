@@ -9,7 +9,7 @@ use Rattle.encoding.specs.Codec.{decodeOf}
 use Rattle.encoding.specs.declared.operation.ElementSize.{ElementSize}
 use Rattle.encoding.specs.declared.operation.Direction.{Direction}
 use Rattle.encoding.specs.declared.operation.Operation.{Operation}
-use Rattle.encoding.specs.declared.operation.Operation.the-variants.{MovaToTile, MovazFromTile, MovaFromArray, MovazFromArray, St1, MovaFromTile}
+use Rattle.encoding.specs.declared.operation.Operation.the-variants.{MovaToTile, MovazFromTile, MovaFromArray, MovazFromArray, St1, MovaFromTile, Ld1}
 use Rattle.encoding.specs.declared.operation.Decoded.{Decoded}
 use Rattle.encoding.specs.declared.operation.Decoded.the-variants as decoded
 use Rattle.execution.specs.declared.answer.Executed.{Executed}
@@ -64,6 +64,7 @@ moveAt S B c (MovaFromArray o) = other
 moveAt S B c (MovazFromArray o) = other
 moveAt S B c (St1 o) = other
 moveAt S B c (MovaFromTile o) = other
+moveAt S B c (Ld1 o) = other
 
 -- with the stride and the vector length of the call's own settings
 abbrev pub moveOf : Call → Operation → Move
@@ -105,6 +106,7 @@ vectorIn (decoded.Done (MovaFromArray o)) = 0
 vectorIn (decoded.Done (MovazFromArray o)) = 0
 vectorIn (decoded.Done (St1 o)) = 0
 vectorIn (decoded.Done (MovaFromTile o)) = 0
+vectorIn (decoded.Done (Ld1 o)) = 0
 vectorIn decoded.BadLevel = 0
 vectorIn decoded.Undecodable = 0
 
@@ -115,6 +117,7 @@ predicateIn (decoded.Done (MovaFromArray o)) = 0
 predicateIn (decoded.Done (MovazFromArray o)) = 0
 predicateIn (decoded.Done (St1 o)) = 0
 predicateIn (decoded.Done (MovaFromTile o)) = 0
+predicateIn (decoded.Done (Ld1 o)) = 0
 predicateIn decoded.BadLevel = 0
 predicateIn decoded.Undecodable = 0
 

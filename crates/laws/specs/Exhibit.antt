@@ -105,7 +105,7 @@ abbrev pub switched : Bool → Bool → Settings
 switched streaming za = record { «vector_bytes» = 32; level = 3; streaming = streaming; za = za; «memory_address» = 0 }
 
 -- vectors of 17 bytes; too few numbers in X; a word that is no instruction; streaming off; ZA off; a stack pointer that is no
--- multiple of 16; an active store with no memory
+-- multiple of 16; an active store with no memory; loads in place of these two stores
 abbrev pub refusedCalls : List Call
 refusedCalls =
     refusedAt (settingsAt 17 0) 0xC0000000 (replicate 32 0) ∷
@@ -114,11 +114,13 @@ refusedCalls =
     refusedAt (switched false true) 0xC0000000 (replicate 32 0) ∷
     refusedAt (switched true false) 0xC0000000 (replicate 32 0) ∷
     refusedAt (settingsAt 32 0) 0xE03F03E0 (set (replicate 32 0) 31 0x1008) ∷
-    refusedAt (settingsAt 32 0) 0xE0220020 (replicate 32 0) ∷ []
+    refusedAt (settingsAt 32 0) 0xE0220020 (replicate 32 0) ∷
+    refusedAt (settingsAt 32 0) 0xE01F03E0 (set (replicate 32 0) 31 0x1008) ∷
+    refusedAt (settingsAt 32 0) 0xE0C20020 (replicate 32 0) ∷ []
 
--- they are refused with 1 to 7 in turn, at any ZA of the right length
+-- they are refused with 1 to 7 in turn, the loads with 6 and 7 too, at any ZA of the right length
 abbrev pub RefusalsShown : Type 0
-RefusalsShown = (za : List ℕ) → length za ≡ 1024 → numbersAt refusedCalls za ≡ 1 ∷ 2 ∷ 3 ∷ 4 ∷ 5 ∷ 6 ∷ 7 ∷ []
+RefusalsShown = (za : List ℕ) → length za ≡ 1024 → numbersAt refusedCalls za ≡ 1 ∷ 2 ∷ 3 ∷ 4 ∷ 5 ∷ 6 ∷ 7 ∷ 6 ∷ 7 ∷ []
 
 -- the list, with those before, between and after its moves
 abbrev pub shownIn : List Call

@@ -132,3 +132,25 @@ pub fn take_column(
         e += 1;
     }
 }
+
+// Copies n elements of src that stand sstep apart, from index sbase on, to elements of dst that stand step apart.
+pub fn copy_column(
+    dst: &mut [u8],
+    base: usize,
+    step: usize,
+    src: &[u8],
+    sbase: usize,
+    sstep: usize,
+    size: ElementSize,
+    n: usize,
+)
+    requires { ⌜ ((e : ℕ) → e < n → base + e * step + bytesOf size ≤ length (now dst)) ⌝ }
+    requires { ⌜ ((e : ℕ) → e < n → sbase + e * sstep + bytesOf size ≤ length (now src)) ⌝ }
+    ensures { λ _. ⌜ now (dst .exit) ≡ scatter (strided base step (bytesOf size)) all (λ (k : ℕ). getD (now (src .entry)) (strided sbase sstep (bytesOf size) k) 0) (n * bytesOf size) (now (dst .entry)) ⌝ }
+{
+    let mut e = 0;
+    while e < n {
+        copy_element(dst, base + e * step, src, sbase + e * sstep, size);
+        e += 1;
+    }
+}

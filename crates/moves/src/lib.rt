@@ -6,6 +6,7 @@ mod element;
 mod group;
 mod merge;
 
+pub use column::copy_column;
 pub use column::merge_column;
 pub use column::take_column;
 pub use copy::clear_bytes;

@@ -26,7 +26,7 @@ module _ (S m t : ℕ) where
   sliceStart-byte Vertical s e i = omega (arith, add-mul (e * m) t S, mul-assoc e m S)
 
   -- the bytes of a slice are those of a column
-  pub sliceAt-strided : (d : Direction) (s : ℕ) → strided (sliceStart S m t d s) (sliceStep S m d) m ≡ sliceAt S m t d s
+  sliceAt-strided : (d : Direction) (s : ℕ) → strided (sliceStart S m t d s) (sliceStep S m d) m ≡ sliceAt S m t d s
   unfolding strided sliceAt
   sliceAt-strided d s = fun-ext (λ k. sliceStart-byte d s (k / m) (k % m))
 
@@ -36,11 +36,11 @@ module _ (S m t : ℕ) where
       rw (p, q) (sym (strided-from (sliceStart S m t Horizontal s) m) ∙ sliceAt-strided Horizontal s)
 
   -- and any slice a column
-  pub slice-column : (d : Direction) (s start step : ℕ) → start ≡ sliceStart S m t d s → step ≡ sliceStep S m d → strided start step m ≡ sliceAt S m t d s
+  slice-column : (d : Direction) (s start step : ℕ) → start ≡ sliceStart S m t d s → step ≡ sliceStep S m d → strided start step m ≡ sliceAt S m t d s
   slice-column d s start step p q = rw (p, q) (sliceAt-strided d s)
 
 -- the step of a vertical slice, as code forms it
-pub step-vertical : (S m : ℕ) (d : Direction) {r : ℕ} → r ≡ m → d ≡ Vertical → r * S ≡ sliceStep S m d
+step-vertical : (S m : ℕ) (d : Direction) {r : ℕ} → r ≡ m → d ≡ Vertical → r * S ≡ sliceStep S m d
 step-vertical S m d p q = rw (p, q)
 
 below-256 : (a b : ℕ) → a ≤ 256 → b ≤ 256 → a * b ≤ 65536
@@ -57,7 +57,7 @@ module _ (S B m n t s : ℕ) (h : Placed S B m n t s) where
       rw (p, q) (omega (arith, block-within (s * m + t) S B vector-below, h .fit))
 
   -- each element of a slice ends within ZA
-  pub column-within : (d : Direction) (start step : ℕ) → start ≡ sliceStart S m t d s → step ≡ sliceStep S m d → (e : ℕ) → e < n → start + e * step + m ≤ B * S
+  column-within : (d : Direction) (start step : ℕ) → start ≡ sliceStart S m t d s → step ≡ sliceStep S m d → (e : ℕ) → e < n → start + e * step + m ≤ B * S
   column-within d start step p q e w =
       let some : 0 < m = omega (arith, h .tile) in
       rw (p, q)
@@ -83,6 +83,17 @@ module _ (S B m n t s : ℕ) (h : Placed S B m n t s) where
       let short : B ≤ 256 = omega (arith, h .fit, h .longest) in
       let within : m ≤ B = omega (arith, h .size) in
       (below-256 (s * m + t) S (omega arith) (h .longest), below-256 t S (omega (arith, h .tile)) (h .longest), below-256 m S (omega arith) (h .longest))
+
+-- a vertical slice as code reaches it: `count` elements from `start` on, r * S apart
+pub record Columned (S B m n t s : ℕ) (d : Direction) (start r count : ℕ) : Type 0 where
+  pub bytes : count * m ≡ B
+  pub places : strided start (r * S) m ≡ sliceAt S m t d s
+  pub within : (e : ℕ) → e < count → start + e * (r * S) + m ≤ B * S
+
+pub columned : (S B m n t s : ℕ) → Placed S B m n t s → (d : Direction) {start r count : ℕ} → start ≡ sliceStart S m t d s → r ≡ m → d ≡ Vertical → count ≡ n → Columned S B m n t s d start r count
+columned S B m n t s h d p q v c =
+    let step = step-vertical S m d q v in
+    record { bytes = rw c (h .size); places = slice-column S m t d s _ _ p step; within = λ e w. column-within S B m n t s h d _ _ p step e (rw c at w) }
 
 -- a slice of a tile in vectors that start B apart
 pub placed : (size : ElementSize) (B t s : ℕ) → isVectorLength B ≡ true → t < bytesOf size → s < B / bytesOf size → Placed B B (bytesOf size) (B / bytesOf size) t s

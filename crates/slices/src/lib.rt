@@ -1,4 +1,4 @@
-// The moves between a vector register and a tile slice, by tile, direction and slice number. Vectors
+// The moves between a vector register, or other bytes in a row, and a tile slice, by tile, direction and slice number. Vectors
 // of vector_bytes start stride apart in za.
 ghost use mathlib.Core.Path.{_≡_};
 ghost use Prim.Native.Nat.{ℕ, _+_, _*_, _/_, _≤_};
@@ -11,6 +11,7 @@ ghost use Rattle.slices.specs.Slice.{Placed, sliceStart};
 use encoding::Direction;
 use encoding::ElementSize;
 use moves::clear_bytes;
+use moves::copy_column;
 use moves::copy_vector;
 use moves::merge_column;
 use moves::merge_vector;
@@ -139,6 +140,60 @@ pub fn merge_from_slice(
             let m = size.bytes() as usize;
             let n = elements_in(vector_bytes, size);
             merge_column(dst, at_dst, m, za, start, m * stride, p, pbase, size, n);
+        }
+    }
+}
+
+// Copies a vector of src, from index at_src on, to a slice of za.
+pub fn copy_to_slice(
+    za: &mut [u8],
+    src: &[u8],
+    at_src: usize,
+    stride: usize,
+    vector_bytes: usize,
+    size: ElementSize,
+    tile: usize,
+    direction: Direction,
+    slice: usize,
+)
+    requires { ⌜ Placed stride «vector_bytes» (bytesOf size) («vector_bytes» / bytesOf size) tile slice ⌝ }
+    requires { ⌜ («vector_bytes» * stride ≤ length (now za)) × («at_src» + «vector_bytes» ≤ length (now src)) ⌝ }
+    ensures { λ _. ⌜ now (za .exit) ≡ scatter (sliceAt stride (bytesOf size) tile direction slice) all (λ (k : ℕ). getD (now (src .entry)) («at_src» + k) 0) «vector_bytes» (now (za .entry)) ⌝ }
+{
+    let start = slice_start(stride, vector_bytes, size, tile, direction, slice);
+    match direction {
+        Direction::Horizontal => copy_vector(za, start, src, at_src, vector_bytes),
+        Direction::Vertical => {
+            let m = size.bytes() as usize;
+            let n = elements_in(vector_bytes, size);
+            copy_column(za, start, m * stride, src, at_src, m, size, n);
+        }
+    }
+}
+
+// Copies a slice of za to bytes that follow each other from index at_dst of dst on.
+pub fn copy_from_slice(
+    dst: &mut [u8],
+    at_dst: usize,
+    za: &[u8],
+    stride: usize,
+    vector_bytes: usize,
+    size: ElementSize,
+    tile: usize,
+    direction: Direction,
+    slice: usize,
+)
+    requires { ⌜ Placed stride «vector_bytes» (bytesOf size) («vector_bytes» / bytesOf size) tile slice ⌝ }
+    requires { ⌜ («vector_bytes» * stride ≤ length (now za)) × («at_dst» + «vector_bytes» ≤ length (now dst)) ⌝ }
+    ensures { λ _. ⌜ now (dst .exit) ≡ scatter (from «at_dst») all (λ (k : ℕ). getD (now (za .entry)) (sliceAt stride (bytesOf size) tile direction slice k) 0) «vector_bytes» (now (dst .entry)) ⌝ }
+{
+    let start = slice_start(stride, vector_bytes, size, tile, direction, slice);
+    match direction {
+        Direction::Horizontal => copy_vector(dst, at_dst, za, start, vector_bytes),
+        Direction::Vertical => {
+            let m = size.bytes() as usize;
+            let n = elements_in(vector_bytes, size);
+            copy_column(dst, at_dst, m, za, start, m * stride, size, n);
         }
     }
 }

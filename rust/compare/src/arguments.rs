@@ -26,7 +26,7 @@ const DEFAULT: Arguments = Arguments {
 };
 
 impl Arguments {
-    /// Reads options in any order; each but `--added` takes one value.
+    /// Reads options in any order; each takes one value.
     pub fn read(words: impl Iterator<Item = OsString>) -> Result<Arguments, String> {
         let mut options = Options::new(words);
         let mut arguments = DEFAULT;
@@ -34,7 +34,7 @@ impl Arguments {
             match option.as_str() {
                 "--seed" => arguments.seed = options.number(&option)?,
                 "--count" => arguments.count = options.number(&option)?,
-                "--added" => arguments.drawn = Drawn::Added,
+                "--request" => arguments.drawn = request(options.number(&option)?)?,
                 "--mistake" => arguments.mistake = mistake(&options.value(&option)?)?,
                 _ => return Err(unknown(&option)),
             }
@@ -46,17 +46,22 @@ impl Arguments {
 /// How to call the program, with the names of the mistakes.
 pub fn usage() -> String {
     let mut usage = String::from(
-        "usage: compare [--seed S] [--count N] [--added] [--mistake NAME]\n\
-         Compares the archive with the second program on N random states (200000). With --added\n\
-         words are drawn only from the rows that request 1 added to the table, and only these rows\n\
-         are counted and judged, beside words without an encoding. With a mistake the second\n\
-         program makes it, and a difference must be found.",
+        "usage: compare [--seed S] [--count N] [--request 1|2] [--mistake NAME]\n\
+         Compares the archive with the second program on N random states (200000). With --request\n\
+         words are drawn only from the rows that this request added to the table, and only these\n\
+         rows are counted and judged, beside words without an encoding. Where there are loads and\n\
+         stores among them, worked examples with the answer written out come first. With a mistake\n\
+         the second program makes it, and a difference must be found.",
     );
     for (name, _) in Mistake::NAMED {
         usage.push_str("\n  NAME: ");
         usage.push_str(name);
     }
     usage
+}
+
+fn request(number: u64) -> Result<Drawn, String> {
+    Drawn::of_request(number).ok_or_else(|| format!("{number}: no such request"))
 }
 
 fn mistake(name: &str) -> Result<Mistake, String> {

@@ -1,5 +1,6 @@
 //! What the cases of a run were, and whether any that must occur is missing.
 
+use crate::accesses::Accesses;
 use crate::case::{Case, Outcome};
 use crate::rows::Drawn;
 use crate::situations::Situations;
@@ -8,13 +9,15 @@ use crate::view::View;
 use std::fmt::{self, Display, Formatter};
 
 /// Below this many cases, a cell of the table may be empty by chance.
-const ENOUGH: u64 = 80_000;
+const ENOUGH: u64 = 150_000;
 
 /// Counts of the cases on which the two programs agree.
 pub struct Counts {
     cases: u64,
+    drawn: Drawn,
     table: Table,
     situations: Situations,
+    accesses: Accesses,
 }
 
 /// Counts of cases that are drawn from all rows.
@@ -29,8 +32,10 @@ impl Counts {
     pub fn new(drawn: Drawn) -> Counts {
         Counts {
             cases: 0,
+            drawn,
             table: Table::new(drawn),
             situations: Situations::new(drawn),
+            accesses: Accesses::default(),
         }
     }
 
@@ -38,7 +43,9 @@ impl Counts {
     pub fn add(&mut self, case: &Case, outcome: &Outcome) {
         self.cases += 1;
         self.table.add(case, outcome.answer);
-        self.situations.add(&View::new(case, outcome));
+        let view = View::new(case, outcome);
+        self.situations.add(&view);
+        self.accesses.add(&view);
     }
 
     /// Takes the counts of other cases in.
@@ -46,6 +53,7 @@ impl Counts {
         self.cases += other.cases;
         self.table.merge(other.table);
         self.situations.merge(other.situations);
+        self.accesses.merge(&other.accesses);
     }
 
     /// How many cases there were.
@@ -79,6 +87,11 @@ impl Counts {
 
 impl Display for Counts {
     fn fmt(&self, f: &mut Formatter) -> fmt::Result {
-        write!(f, "{}\n{}", self.table, self.situations)
+        writeln!(f, "{}\n{}", self.table, self.situations)?;
+        writeln!(f, "{}", self.table.answers())?;
+        if self.drawn.has_access() {
+            writeln!(f, "{}", self.accesses)?;
+        }
+        Ok(())
     }
 }

@@ -1,9 +1,10 @@
 //! Comparison of the second program with the proved archive, as hosts in
-//! Rust have it: random states go through both, and every byte that they
-//! leave is compared.
+//! Rust have it: random states and worked examples go through both, and
+//! every byte that they leave is compared.
 
 #![forbid(unsafe_code)]
 
+mod accesses;
 pub mod arguments;
 pub mod case;
 pub mod command;
@@ -18,3 +19,4 @@ pub mod table;
 #[cfg(test)]
 mod tests;
 mod view;
+pub mod worked;

@@ -5,22 +5,37 @@ use crate::case::{Case, Outcome};
 use crate::counts::Counts;
 use crate::difference::Difference;
 use crate::generate::generate;
-use crate::rows::Drawn;
+use crate::worked;
 use second::execute::Mistake;
 use second::inputs::random::Random;
 
 /// Runs what the command line asks for. True if it passes.
 pub fn run(arguments: &Arguments) -> bool {
-    let words = match arguments.drawn {
-        Drawn::All => "all words",
-        Drawn::Added => "added words",
-    };
-    let Arguments { seed, count, .. } = arguments;
-    println!("seed 0x{seed:X}, count {count}, {words}");
+    let Arguments {
+        seed, count, drawn, ..
+    } = arguments;
+    println!("seed 0x{seed:X}, count {count}, {drawn}");
     match arguments.mistake {
+        Mistake::None if drawn.has_access() => compare_worked() && compare(arguments),
         Mistake::None => compare(arguments),
         _ => notice(arguments),
     }
+}
+
+/// Holds both programs to the worked examples. True if they pass.
+fn compare_worked() -> bool {
+    let examples = worked::list();
+    let wrong: Vec<String> = examples
+        .iter()
+        .filter_map(|own| own.check().err())
+        .collect();
+    if wrong.is_empty() {
+        let count = examples.len();
+        println!("{count} worked examples, both as written out");
+    } else {
+        println!("{}", wrong.join("\n"));
+    }
+    wrong.is_empty()
 }
 
 /// Compares all cases and prints the counts. True if all agree and nothing

@@ -1,7 +1,7 @@
 //! How often each answer was given, by encoding and vector length.
 
 use crate::case::Case;
-use crate::rows::{encoding, Drawn, NO_ENCODING, STORE};
+use crate::rows::{encoding, is_access, Drawn, NO_ENCODING, TABLE};
 use second::execute::VECTOR_LENGTHS;
 use std::fmt::{self, Display, Formatter};
 
@@ -20,7 +20,7 @@ pub(crate) const NAMES: [&str; NO_ENCODING + 1] = [
     "move and zero from tile, m=16",
     "move from array, four",
     "move and zero from array, two",
-    "store of bytes",
+    "store, m=1",
     "move from tile, m=1",
     "move from tile, m=2",
     "move from tile, m=4",
@@ -28,6 +28,15 @@ pub(crate) const NAMES: [&str; NO_ENCODING + 1] = [
     "move from tile, m=16",
     "move from array, two",
     "move and zero from array, four",
+    "store, m=2",
+    "store, m=4",
+    "store, m=8",
+    "store, m=16",
+    "load, m=1",
+    "load, m=2",
+    "load, m=4",
+    "load, m=8",
+    "load, m=16",
     "no encoding",
 ];
 /// The answers of execution, 0 to 7.
@@ -126,6 +135,12 @@ impl Table {
         cells
     }
 
+    /// How many cases had each answer, in a line.
+    pub fn answers(&self) -> String {
+        let counts = (0..ANSWERS).map(|answer| format!("{} of {answer}", self.answered(answer)));
+        format!("answers: {}", counts.collect::<Vec<_>>().join(", "))
+    }
+
     /// How many cases had this answer.
     pub fn answered(&self, answer: usize) -> u64 {
         let lines = self.counts.iter().flatten();
@@ -149,13 +164,13 @@ impl Table {
     }
 }
 
-/// Which answers document 01 allows: 6 and 7 to the store only, 0 and what
-/// comes after decoding only to a word with an encoding. Every encoding has
-/// a level below its own, so that 3 can occur to each.
+/// Which answers document 01 allows as amended: 6 and 7 to loads and stores
+/// only, 0 and what comes after decoding only to a word with an encoding.
+/// Every encoding has a level below its own, so that 3 can occur to each.
 fn can_occur(row: usize, answer: usize) -> bool {
     match answer {
         1..=3 => true,
-        6 | 7 => row == STORE,
+        6 | 7 => TABLE.get(row).is_some_and(|own| is_access(own.kind)),
         _ => row != NO_ENCODING,
     }
 }

@@ -6,14 +6,17 @@ use crate::counts::Counts;
 use crate::exhaustive::arguments as exhaustive;
 use crate::exhaustive::progress;
 use crate::generate::generate;
-use crate::rows::{encoding, Drawn, NO_ENCODING, OF_DOCUMENT, STORE, TABLE};
+use crate::rows::{encoding, is_access, Drawn, NO_ENCODING, OF_DOCUMENT, TABLE};
 use crate::table::{Table, NAMES};
+use crate::worked;
 use second::execute::Mistake;
 use second::flat;
 use second::inputs::random::Random;
 use second::inputs::rows::Row;
 use std::ffi::OsString;
 use std::time::Duration;
+
+const EACH: [Drawn; 3] = [Drawn::All, Drawn::Request1, Drawn::Request2];
 
 fn read(line: &str) -> Result<Arguments, String> {
     Arguments::read(line.split_whitespace().map(OsString::from))
@@ -24,10 +27,11 @@ fn arguments_are_read() {
     let plain = read("").unwrap();
     assert_eq!((plain.count, plain.mistake), (200_000, Mistake::None));
     assert_eq!(plain.drawn, Drawn::All);
-    let all = read("--mistake TileAsBlock --seed 0x1F --added --count 12").unwrap();
+    let all = read("--mistake TileAsBlock --seed 0x1F --request 1 --count 12").unwrap();
     assert_eq!((all.seed, all.count), (31, 12));
     assert_eq!(all.mistake, Mistake::TileAsBlock);
-    assert_eq!(all.drawn, Drawn::Added);
+    assert_eq!(all.drawn, Drawn::Request1);
+    assert_eq!(read("--request 2").unwrap().drawn, Drawn::Request2);
 }
 
 #[test]
@@ -36,7 +40,10 @@ fn bad_arguments_are_errors() {
         "--seed",
         "--seed x",
         "--mistake Tile",
-        "--added 1",
+        "--added",
+        "--request",
+        "--request 0",
+        "--request 3",
         "--other 1",
         "7",
     ] {
@@ -88,16 +95,16 @@ fn progress_tells_what_is_left() {
     assert_eq!(line, "words: 100.0 % done, 0 min 00 s left");
 }
 
-/// A hundred thousand cases, by the second program alone, leave nothing to
-/// complain of, and neither do as many of added words.
+/// As many cases as are judged, by the second program alone, leave nothing to
+/// complain of, and neither do as many of the words of each request.
 #[test]
 fn cases_reach_all_that_can_occur() {
-    for drawn in [Drawn::All, Drawn::Added] {
+    for drawn in EACH {
         let mut random = Random::new(11);
         let mut case = Case::empty();
         let mut outcome = Outcome::default();
         let mut counts = Counts::new(drawn);
-        for _ in 0..100_000 {
+        for _ in 0..150_000 {
             generate(&mut random, &mut case, drawn);
             outcome.run_second(&case, Mistake::None);
             counts.add(&case, &outcome);
@@ -126,18 +133,33 @@ fn share(counts: &[usize]) -> usize {
     mean
 }
 
-/// Every row has one share, and the store three, beside the cases that only
-/// a store can have.
+/// Every move has one share of the rows, and so has every load and store
+/// beside the cases that only they can have.
 #[test]
 fn every_row_has_its_share() {
     let counts = counts_of_rows(Drawn::All);
-    let others = [&counts[..STORE], &counts[STORE + 1..NO_ENCODING]].concat();
-    assert!(counts[STORE] > 3 * share(&others));
+    let (accesses, moves): (Vec<usize>, Vec<usize>) =
+        (0..NO_ENCODING).partition(|&row| is_access(TABLE[row].kind));
+    let [accesses, moves] = [accesses, moves].map(|rows| {
+        let counts: Vec<usize> = rows.into_iter().map(|row| counts[row]).collect();
+        share(&counts)
+    });
+    assert!(accesses > moves && accesses < 2 * moves);
     assert!(counts[NO_ENCODING] > 0);
-    let added = counts_of_rows(Drawn::Added);
-    assert_eq!(added[..OF_DOCUMENT], [0; OF_DOCUMENT]);
-    assert!(share(&added[OF_DOCUMENT..NO_ENCODING]) > 2 * share(&others));
-    assert!(added[NO_ENCODING] > 0);
+}
+
+/// The rows of a request have all cases among them, but for the words that
+/// fit none.
+#[test]
+fn every_row_of_a_request_has_its_share() {
+    for drawn in [Drawn::Request1, Drawn::Request2] {
+        let counts = counts_of_rows(drawn);
+        let rows = drawn.rows();
+        assert!(share(&counts[rows.clone()]) > 90_000 / rows.len());
+        let others = (0..NO_ENCODING).filter(|row| !rows.contains(row));
+        assert_eq!(others.map(|row| counts[row]).sum::<usize>(), 0);
+        assert!(counts[NO_ENCODING] > 0);
+    }
 }
 
 /// What a row of the table of words is called.
@@ -148,10 +170,11 @@ fn name(row: &Row) -> String {
         flat::MOVA_ARRAY => "move from array",
         flat::MOVAZ_ARRAY => "move and zero from array",
         flat::MOVA_FROM_TILE => "move from tile",
-        _ => return "store of bytes".to_string(),
+        flat::STORE => "store",
+        _ => "load",
     };
     match row.vectors {
-        1 => format!("{kind}, m={}", row.element_bytes),
+        0 | 1 => format!("{kind}, m={}", row.element_bytes),
         2 => format!("{kind}, two"),
         _ => format!("{kind}, four"),
     }
@@ -160,34 +183,46 @@ fn name(row: &Row) -> String {
 #[test]
 fn rows_have_their_names() {
     assert_eq!(NAMES[..NO_ENCODING], TABLE.each_ref().map(name));
-    assert_eq!(TABLE[STORE].kind, flat::STORE);
 }
 
-/// Request 1 added the moves from a tile and two of the array, and the store
-/// is the last row before them.
+/// Kind, element bytes and number of vector registers of the rows.
+fn shapes(drawn: Drawn) -> Vec<(u8, u8, u8)> {
+    let rows = TABLE[drawn.rows()].iter();
+    let shape = |row: &Row| (row.kind, row.element_bytes, row.vectors);
+    rows.map(shape).collect()
+}
+
+/// Document 01's last row is the store of bytes. Request 1 added the moves
+/// from a tile and two of the array, request 2 loads and the other stores.
 #[test]
-fn added_rows_come_after_the_store() {
-    assert_eq!(STORE + 1, OF_DOCUMENT);
-    let added = TABLE[OF_DOCUMENT..]
-        .iter()
-        .map(|row| (row.kind, row.vectors));
-    let from_tile = [(flat::MOVA_FROM_TILE, 1); 5];
-    let array = [(flat::MOVA_ARRAY, 2), (flat::MOVAZ_ARRAY, 4)];
-    assert!(added.eq(from_tile.into_iter().chain(array)));
+fn rows_of_requests_come_after_those_of_the_document() {
+    assert_eq!(shapes(Drawn::All)[OF_DOCUMENT - 1], (flat::STORE, 1, 0));
+    assert_eq!(Drawn::Request1.rows().start, OF_DOCUMENT);
+    assert_eq!(Drawn::Request1.rows().end, Drawn::Request2.rows().start);
+    assert_eq!(Drawn::Request2.rows().end, TABLE.len());
+    let sizes = [1, 2, 4, 8, 16];
+    let from_tile = sizes.map(|m| (flat::MOVA_FROM_TILE, m, 1));
+    let array = [(flat::MOVA_ARRAY, 0, 2), (flat::MOVAZ_ARRAY, 0, 4)];
+    assert_eq!(shapes(Drawn::Request1), [&from_tile[..], &array].concat());
+    let stores = sizes.map(|m| (flat::STORE, m, 0));
+    let loads = sizes.map(|m| (flat::LOAD, m, 0));
+    assert_eq!(shapes(Drawn::Request2), [&stores[1..], &loads].concat());
 }
 
-/// An empty run has much to complain of: each encoding has six answers, the
-/// store eight, the words without an encoding three, each at five lengths,
-/// and each has a cell apart.
+/// An empty run has much to complain of: each encoding has six answers, a
+/// load or store eight, the words without an encoding three, each at five
+/// lengths, and each has a cell apart.
 #[test]
 fn missing_cells_are_told() {
-    let missing = Table::new(Drawn::All).missing();
-    let encodings = NO_ENCODING;
-    let cells = (encodings - 1) * 6 + 8 + 3;
-    assert_eq!(missing.len(), cells * 5 + encodings + 1);
-    let missing = Table::new(Drawn::Added).missing();
-    let encodings = NO_ENCODING - OF_DOCUMENT;
-    assert_eq!(missing.len(), (encodings * 6 + 3) * 5 + encodings + 1);
+    for (drawn, moves, accesses) in [
+        (Drawn::All, 19, 10),
+        (Drawn::Request1, 7, 0),
+        (Drawn::Request2, 0, 9),
+    ] {
+        let missing = Table::new(drawn).missing();
+        let cells = moves * 6 + accesses * 8 + 3;
+        assert_eq!(missing.len(), cells * 5 + moves + accesses + 1);
+    }
 }
 
 /// An answer that no word of the case may get is told.
@@ -203,18 +238,77 @@ fn impossible_cells_are_told() {
     }
 }
 
-/// Where only added words are drawn, others cannot occur, whatever their
-/// answer.
+/// Where only words of a request are drawn, others cannot occur, whatever
+/// their answer.
 #[test]
 fn words_that_are_not_drawn_are_told() {
     let mut case = Case::empty();
     for vector_bytes in [16, 17] {
         case.settings.vector_bytes = vector_bytes;
-        for (word, told) in [(0xC000_0000, 1), (0xC002_0000, 0), (0xC000_0010, 0)] {
+        // A word of document 01, one of each request, and one of none.
+        for (word, told) in [
+            (0xE020_0000, [0, 1, 1]),
+            (0xC002_0000, [0, 0, 1]),
+            (0xE060_0000, [0, 1, 0]),
+            (0xE000_0010, [0, 0, 0]),
+        ] {
             case.word = word;
-            let mut table = Table::new(Drawn::Added);
-            table.add(&case, 1);
-            assert_eq!(table.impossible().len(), told, "{word:08X}");
+            for (drawn, told) in EACH.into_iter().zip(told) {
+                let mut table = Table::new(drawn);
+                table.add(&case, 1);
+                assert_eq!(table.impossible().len(), told, "{word:08X}");
+            }
         }
+    }
+}
+
+/// A worked example is held to what is written out in every part.
+#[test]
+fn worked_examples_are_held_to_each_part() {
+    for worked in worked::list() {
+        let right = || {
+            let mut outcome = Outcome::default();
+            outcome.run_second(&worked.case, Mistake::None);
+            outcome
+        };
+        assert_eq!(worked.hold("second", &right()), Ok(()));
+        let spoils: [fn(&mut Outcome); 7] = [
+            |own| own.answer ^= 1,
+            |own| own.address ^= 1,
+            |own| own.x[7] ^= 1,
+            |own| own.z[7] ^= 1,
+            |own| own.p[7] ^= 1,
+            |own| own.za[7] ^= 1,
+            |own| own.memory.push(1),
+        ];
+        for spoil in spoils {
+            let mut outcome = right();
+            spoil(&mut outcome);
+            assert!(worked.hold("second", &outcome).is_err(), "{}", worked.name);
+        }
+    }
+}
+
+/// Each mistake about loads and stores is one that a worked example tells.
+#[test]
+fn worked_examples_tell_mistakes() {
+    for mistake in [
+        Mistake::StoreBeforeFault,
+        Mistake::BaseThirtyOneAsZero,
+        Mistake::OffsetThirtyOneAsStackPointer,
+        Mistake::PredicateBitPerElement,
+        Mistake::LoadKeepsInactive,
+        Mistake::LoadKeepsTrailing,
+        Mistake::OffsetNotScaled,
+        Mistake::FaultAtElement,
+        Mistake::FirstByteChecked,
+        Mistake::BigEndian,
+    ] {
+        let told = |worked: &worked::Worked| {
+            let mut outcome = Outcome::default();
+            outcome.run_second(&worked.case, mistake);
+            worked.hold("second", &outcome).is_err()
+        };
+        assert!(worked::list().iter().any(told), "{mistake:?}");
     }
 }

@@ -1,8 +1,10 @@
 //! What a case looks like from outside, for counting and for printing.
 
 use crate::case::{Case, Outcome};
+use crate::rows::is_access;
 use second::decode::decode;
 use second::flat::{self, Flat};
+use std::ops::Range;
 
 /// Addresses wrap here.
 const ADDRESSES: u128 = 1 << 64;
@@ -41,8 +43,9 @@ impl<'a> View<'a> {
         self.case.settings.vector_bytes
     }
 
-    pub fn store(&self) -> bool {
-        self.operation.is_some_and(|own| own.kind == flat::STORE)
+    /// The operation, if it is a load or store.
+    pub fn access(&self) -> Option<Flat> {
+        self.operation.filter(|own| is_access(own.kind))
     }
 
     /// Whether the operation has a governing predicate.
@@ -72,43 +75,96 @@ impl<'a> View<'a> {
         self.index_sum() % self.elements()
     }
 
-    /// The base register of a store.
+    /// Where element e of the operation's slice is in ZA (document 01, section
+    /// 3).
+    pub fn place(&self, own: &Flat, e: usize) -> Range<usize> {
+        let m = usize::from(own.element_bytes);
+        let slice = self.number() as usize;
+        let (row, column) = if own.direction == 1 {
+            (e, slice)
+        } else {
+            (slice, e)
+        };
+        let vector = row * m + usize::from(own.tile);
+        let first = vector * self.vector_bytes() as usize + column * m;
+        first..first + m
+    }
+
+    /// The base register of a load or store.
     pub fn base(&self) -> Option<u8> {
-        let store = self.operation.filter(|_| self.store());
-        store.map(|own| own.base)
+        self.access().map(|own| own.base)
     }
 
-    /// The offset register of a store.
+    /// The offset register of a load or store.
     pub fn offset_register(&self) -> Option<u8> {
-        let store = self.operation.filter(|_| self.store());
-        store.map(|own| own.offset_register)
+        self.access().map(|own| own.offset_register)
     }
 
-    /// The address of element 0 of a store.
-    pub fn start(&self) -> u128 {
-        let base = self.base().map_or(0, |number| self.x(number));
+    /// m, the bytes of an element.
+    fn element_bytes(&self) -> u128 {
+        self.operation
+            .map_or(1, |own| u128::from(own.element_bytes))
+    }
+
+    /// What the offset register adds to the base, over whole numbers: the
+    /// product of its value with m.
+    pub fn product(&self) -> u128 {
         let offset = match self.offset_register() {
             Some(31) | None => 0,
             Some(number) => self.x(number),
         };
-        (u128::from(base) + u128::from(offset)) % ADDRESSES
+        u128::from(offset) * self.element_bytes()
     }
 
-    /// The address of the first active element of a store.
+    /// The address of element 0 of a load or store.
+    pub fn start(&self) -> u128 {
+        let base = self.base().map_or(0, |number| self.x(number));
+        (u128::from(base) + self.product()) % ADDRESSES
+    }
+
+    /// The address of byte i of element e of a load or store.
+    fn address_of(&self, e: usize, i: u128) -> u128 {
+        (self.start() + e as u128 * self.element_bytes() + i) % ADDRESSES
+    }
+
+    /// The addresses of an element's first byte and of its last. Where the
+    /// last is below the first, the element goes over 2^64.
+    pub fn ends(&self, e: usize) -> (u128, u128) {
+        let last = self.element_bytes() - 1;
+        (self.address_of(e, 0), self.address_of(e, last))
+    }
+
+    /// Whether all bytes of an element are in memory, which does not wrap.
+    pub fn in_memory(&self, e: usize) -> bool {
+        let memory = self.memory_start()..self.memory_end();
+        let (first, last) = self.ends(e);
+        first <= last && memory.contains(&first) && memory.contains(&last)
+    }
+
+    /// The address of the first byte of the lowest active element.
     pub fn first_address(&self) -> Option<u128> {
-        let first = self.active.first();
-        first.map(|e| (self.start() + *e as u128) % ADDRESSES)
+        self.active.first().map(|&e| self.ends(e).0)
     }
 
-    /// The address of the last active element of a store.
+    /// The address of the last byte of the highest active element.
     pub fn last_address(&self) -> Option<u128> {
-        let last = self.active.last();
-        last.map(|e| (self.start() + *e as u128) % ADDRESSES)
+        self.active.last().map(|&e| self.ends(e).1)
     }
 
     /// Whether an active element's number takes its address past 2^64.
     pub fn wraps(&self) -> bool {
         self.last_address().is_some_and(|last| last < self.start())
+    }
+
+    /// The element that answer 7 tells of, and the number of its byte whose
+    /// address it carries.
+    pub fn fault(&self) -> Option<(usize, u128)> {
+        if self.answer != 7 {
+            return None;
+        }
+        let from_start = (u128::from(self.address) + ADDRESSES - self.start()) % ADDRESSES;
+        let m = self.element_bytes();
+        Some(((from_start / m) as usize, from_start % m))
     }
 
     pub fn memory_start(&self) -> u128 {
@@ -118,10 +174,6 @@ impl<'a> View<'a> {
     /// One past the last address of memory.
     pub fn memory_end(&self) -> u128 {
         self.memory_start() + self.case.memory.len() as u128
-    }
-
-    pub fn in_memory(&self, address: u128) -> bool {
-        (self.memory_start()..self.memory_end()).contains(&address)
     }
 
     /// Whether the stack pointer is a multiple of 16.
@@ -147,7 +199,8 @@ fn parts(operation: &Flat) -> u64 {
 }
 
 fn predicated(operation: &Flat) -> bool {
-    [flat::MOVA_TO_TILE, flat::STORE, flat::MOVA_FROM_TILE].contains(&operation.kind)
+    let tile_moves = [flat::MOVA_TO_TILE, flat::MOVA_FROM_TILE];
+    tile_moves.contains(&operation.kind) || is_access(operation.kind)
 }
 
 /// The bytes of a predicate register, or none where P is too short.

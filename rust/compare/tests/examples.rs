@@ -1,25 +1,9 @@
-//! Worked examples 12 and 13 of document 01, and the like for the words that request 1 added, through
+//! Worked examples 12 and 13 of document 01, and the like for the words that requests added, through
 //! the archive and through the second program.
 
 use compare::case::{Case, Outcome};
+use compare::worked::{self, case};
 use second::execute::Mistake;
-
-/// Buffers of the right lengths whose bytes are not zero, and no predicate bit set.
-fn case(vector_bytes: usize, word: u32) -> Case {
-    let bytes =
-        |count: usize, first: usize| (first..first + count).map(|i| (i * 7 % 251 + 1) as u8);
-    let mut case = Case::empty();
-    case.settings.vector_bytes = vector_bytes as u64;
-    case.settings.level = 3;
-    case.settings.streaming = true;
-    case.settings.za_on = true;
-    case.word = word;
-    case.x = vec![0; 32];
-    case.z = bytes(32 * vector_bytes, 11).collect();
-    case.p = vec![0; 16 * vector_bytes / 8];
-    case.za = bytes(vector_bytes * vector_bytes, 97).collect();
-    case
-}
 
 /// What both programs make of a case.
 fn both(case: &Case) -> Outcome {
@@ -55,10 +39,24 @@ fn example_13_bits_that_are_not_looked_at() {
     assert!(outcome.za[4..] == case.za[4..]);
 }
 
+/// Those of loads and stores, with answer, address and every byte written out.
+#[test]
+fn loads_and_stores_are_as_written_out() {
+    for example in worked::list() {
+        assert_eq!(example.check(), Ok(()));
+    }
+}
+
 /// Below its level an added word is refused as undecodable, also with both switches off.
 #[test]
 fn added_words_have_their_levels() {
-    for (word, least) in [(0xC002_0000, 1), (0xC006_0800, 2), (0xC006_0E00, 3)] {
+    for (word, least) in [
+        (0xC002_0000, 1),
+        (0xC006_0800, 2),
+        (0xC006_0E00, 3),
+        (0xE060_0000, 1),
+        (0xE1C0_0000, 1),
+    ] {
         let mut case = case(16, word);
         for level in 0..=3 {
             case.settings.level = level;

@@ -12,6 +12,9 @@ const TWO: Workers = Workers { threads: 2 };
 
 /// Two blocks; words begin to decode in the first.
 const RANGE: RangeInclusive<u32> = 0xBFFF_0000..=0xC010_00FF;
+/// The last stores of 8-byte elements, and the first words of the next top
+/// byte, which fit no row.
+const ACCESSES: RangeInclusive<u32> = 0xE0FF_0000..=0xE101_00FF;
 /// Decodes from level 1 on.
 const WORD: u32 = 0xC000_0000;
 /// The numbers of that word.
@@ -52,11 +55,15 @@ impl<F: Fn(&Numbers, &mut u32) -> Option<u32> + Sync> Codec for WrongEncode<F> {
 
 /// What is told of a wrong program on the words of the range.
 fn told_of_words(wrong: impl Codec) -> String {
+    told_of_words_in(RANGE, wrong)
+}
+
+fn told_of_words_in(range: RangeInclusive<u32>, wrong: impl Codec) -> String {
     let programs = Programs {
         archive: wrong,
         second: Second,
     };
-    words::compare(&programs, RANGE, &TWO).expect_err("a difference")
+    words::compare(&programs, range, &TWO).expect_err("a difference")
 }
 
 /// What is told of a wrong program on the neighbours of the word's numbers.
@@ -82,6 +89,15 @@ fn words_agree_on_one_thread_and_on_two() {
     let decoding = [0, tiles, tiles + array, tiles + array + zeroing];
     assert_eq!(one.decoding, decoding);
     assert_eq!(one.check(), Ok(()));
+}
+
+#[test]
+fn words_of_loads_and_stores_agree() {
+    let found = words::compare(&Programs::REAL, ACCESSES, &TWO).expect("no difference");
+    // Of the words with bit 24 clear, those with bit 4 clear.
+    assert_eq!(found.decoding, [0, 32768, 32768, 32768]);
+    let loads = words::compare(&Programs::REAL, 0xE1C0_0000..=0xE1C0_FFFF, &TWO);
+    assert_eq!(loads.expect("no difference").decoding[1], 32768);
 }
 
 #[test]
@@ -154,6 +170,26 @@ fn a_bit_that_is_not_looked_at_is_noticed() {
     }
 }
 
+/// Loads differ from stores in bit 21, and those of 16-byte elements from
+/// others in bit 24, which goes with no smaller size but that of 8 bytes.
+#[test]
+fn a_bit_of_loads_and_stores_that_is_not_looked_at_is_noticed() {
+    for (bits, told_word) in [
+        (0x10, "E0FF0010 at level 1"),
+        (0x20_0000, "E0FF0000 at level 1"),
+        (0x100_0000, "E1000000 at level 1"),
+    ] {
+        let told = told_of_words_in(
+            ACCESSES,
+            WrongDecode(|word: u32, level, fields: &mut Numbers| {
+                let seen = word & !bits;
+                (word != seen).then(|| Second.decode(seen, level, fields))
+            }),
+        );
+        assert!(told.contains(&format!("word {told_word}\n")), "{told}");
+    }
+}
+
 #[test]
 fn a_wrong_answer_at_no_level_is_noticed() {
     let told = told_of_words(WrongDecode(|word, level, _: &mut Numbers| {
@@ -213,10 +249,10 @@ fn bases_are_encodable_and_of_every_kind_size_direction_and_number_of_registers(
     let mut shapes: Vec<[u8; 4]> = bases.iter().map(shape).collect();
     shapes.sort();
     shapes.dedup();
-    // Five sizes of three kinds and one store in two directions, and two
-    // array kinds of two and of four registers.
-    assert_eq!(shapes.len(), 2 * (3 * 5 + 1) + 2 * 2);
-    assert_eq!(bases.len(), 776);
+    // Five sizes of five kinds in two directions, and two array kinds of two
+    // and of four registers.
+    assert_eq!(shapes.len(), 2 * 5 * 5 + 2 * 2);
+    assert_eq!(bases.len(), 1754);
     for base in &bases {
         assert_eq!(Archive.encode(base, &mut 0), 0, "{base:?}");
     }

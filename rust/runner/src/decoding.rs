@@ -61,6 +61,16 @@ mod tests {
             ),
             (0xC006086A, 2, "move from array: 2 vectors"),
             (0xC0064EFC, 3, "move and zero from array: 4 vectors"),
+            (
+                0xE1F55D4B,
+                1,
+                "store from tile: 16-byte elements, tile 11, horizontal",
+            ),
+            (
+                0xE08CC7AE,
+                1,
+                "load to tile: 4-byte elements, tile 3, vertical",
+            ),
         ] {
             let text = printed(word, level);
             assert!(text.starts_with(&format!("{word:08X}\n  meaning  {meaning}; ")));

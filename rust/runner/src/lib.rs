@@ -7,6 +7,7 @@
 
 #![forbid(unsafe_code)]
 
+mod access;
 mod arguments;
 pub mod command;
 mod decoding;

@@ -16,7 +16,7 @@ pub struct Execution {
     pub fields: Result<Fields, Refusal>,
     pub answer: Result<(), Refusal>,
     pub state_before: State,
-    /// Memory before a store; empty for other words, which leave memory alone.
+    /// Memory before a store; empty for other words, which leave memory alone, loads included.
     pub memory_before: Vec<u8>,
 }
 
@@ -95,6 +95,7 @@ pub fn member(state: &State, place: Place, number: usize, vector_bytes: usize) -
 #[cfg(test)]
 mod tests {
     use super::*;
+    use crate::access::first_address;
     use crate::script::parse;
     use crate::taken::{active_elements, Taken};
 
@@ -161,7 +162,7 @@ mod tests {
         }
     }
 
-    /// Whether each of the bytes that a word takes is moved to a vector register: those of active elements are.
+    /// Whether each of the bytes that a word takes is moved to a register or memory: those of active elements are.
     fn moved_bytes(fields: Fields, taken: &Taken, machine: &Machine) -> Vec<bool> {
         let length = machine.vector_bytes();
         match *taken {
@@ -202,6 +203,70 @@ mod tests {
                     }
                 }
                 assert!(machine.state == expected, "{word:08X}");
+            }
+        }
+    }
+
+    /// A machine that has this word's slice in memory, at the addresses of all its elements.
+    fn machine_for(word: u32, vector_bytes: usize) -> Machine {
+        let mut machine = machine(vector_bytes);
+        fill(&mut machine.state.p, 37);
+        fill(&mut machine.state.za, 7);
+        machine.state.x[31] = 0x2_0000_0000;
+        machine.memory = vec![0; vector_bytes];
+        fill(&mut machine.memory, 11);
+        let fields = decode_fields(word, 3).expect("the word decodes");
+        let address = first_address(fields, &machine.state.x);
+        machine.settings = machine.settings.with_memory_address(address);
+        machine
+    }
+
+    /// A load is checked by the array: just what is taken gets what is at the address, or zero where it is not active.
+    #[test]
+    fn what_a_load_takes_is_what_the_unit_loads() {
+        let words = [0xE006AF2E, 0xE05F724D, 0xE08CC7AE, 0xE0DB37ED, 0xE1C8FA6D];
+        for vector_bytes in [16, 32, 64, 128, 256] {
+            for word in words {
+                let mut machine = machine_for(word, vector_bytes);
+                let mut expected = machine.state.clone();
+                let memory = machine.memory.clone();
+                let done = machine.execute(word);
+                assert_eq!(done.answer, Ok(()));
+                let fields = done.fields.unwrap();
+                let taken = Taken::by(fields, vector_bytes, &machine.state.x);
+                let places = taken_bytes(&taken, vector_bytes).into_iter();
+                let loaded = moved_bytes(fields, &taken, &machine);
+                for (byte, (place, loaded)) in places.zip(loaded).enumerate() {
+                    expected.za[place] = if loaded { memory[byte] } else { 0 };
+                }
+                assert!(machine.state == expected, "{word:08X}");
+                assert!(machine.memory == memory && done.memory_before.is_empty());
+            }
+        }
+    }
+
+    /// A store is checked by memory.
+    #[test]
+    fn what_a_store_takes_is_what_the_unit_stores() {
+        let words = [0xE02E2041, 0xE071D52E, 0xE0BE386B, 0xE0E4EBEB, 0xE1F55D4B];
+        for vector_bytes in [16, 32, 64, 128, 256] {
+            for word in words {
+                let mut machine = machine_for(word, vector_bytes);
+                let before = machine.state.clone();
+                let mut expected = machine.memory.clone();
+                let done = machine.execute(word);
+                assert_eq!(done.answer, Ok(()));
+                let fields = done.fields.unwrap();
+                let taken = Taken::by(fields, vector_bytes, &machine.state.x);
+                let places = taken_bytes(&taken, vector_bytes).into_iter();
+                let stored = moved_bytes(fields, &taken, &machine);
+                for (byte, (place, stored)) in places.zip(stored).enumerate() {
+                    if stored {
+                        expected[byte] = before.za[place];
+                    }
+                }
+                assert!(machine.memory == expected, "{word:08X}");
+                assert!(machine.state == before);
             }
         }
     }

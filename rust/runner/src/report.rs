@@ -2,6 +2,7 @@
 
 mod grids;
 
+use crate::access;
 use crate::grid::Grid;
 use crate::kind;
 use crate::machine::{Execution, Machine};
@@ -96,20 +97,21 @@ fn taking(out: &mut impl Write, fields: Fields, machine: &Machine) -> io::Result
         let active = active(&active_elements(tile, predicate), tile.slices());
         item(out, "active", &[active])?;
     }
-    if fields.kind == kind::STORE {
-        let offset = match fields.offset_register {
-            31 => 0,
-            register => registers[usize::from(register)],
-        };
-        let address = registers[usize::from(fields.base)].wrapping_add(offset);
-        let sum = wording::store_address(fields);
-        item(
-            out,
-            "address",
-            &[format!("{address:016X} for element 0: {sum}")],
-        )?;
+    if kind::is_access(fields.kind) {
+        item(out, "address", &[address(fields, registers)])?;
     }
     Ok(())
+}
+
+/// Where a load or store begins in memory, and how far apart elements are of more than one byte.
+fn address(fields: Fields, registers: &[u64]) -> String {
+    let address = access::first_address(fields, registers);
+    let sum = access::sum(fields);
+    let first = format!("{address:016X} for element 0: {sum}");
+    match fields.element_bytes {
+        1 => first,
+        bytes => format!("{first}, then every {bytes}"),
+    }
 }
 
 fn what_is_taken(taken: &Taken) -> String {

@@ -1,5 +1,6 @@
 //! Words, fields and answers in plain English.
 
+use crate::access;
 use crate::digits::shown;
 use crate::kind;
 use crate::taken::is_vertical;
@@ -43,13 +44,15 @@ pub fn meaning(fields: Fields) -> String {
         ),
         kind::MOVE_FROM_ARRAY => format!("move from array: {}", group(fields)),
         kind::MOVE_AND_ZERO_FROM_ARRAY => format!("move and zero from array: {}", group(fields)),
-        _ => format!(
-            "store from tile: {}; predicate {}, at {}",
-            slices(fields),
-            fields.predicate,
-            store_address(fields)
-        ),
+        kind::LOAD => format!("load to tile: {}", access(fields)),
+        _ => format!("store from tile: {}", access(fields)),
     }
+}
+
+fn access(fields: Fields) -> String {
+    let (slices, predicate) = (slices(fields), fields.predicate);
+    let address = access::sum(fields);
+    format!("{slices}; predicate {predicate}, at {address}")
 }
 
 fn slices(fields: Fields) -> String {
@@ -70,18 +73,6 @@ fn group(fields: Fields) -> String {
     let (count, first) = (fields.registers, fields.vector);
     let last = first + count - 1;
     format!("{count} vectors; to vector registers {first} to {last}")
-}
-
-/// How a store's address is made. Number 31 is the stack pointer as base, and zero as offset.
-pub fn store_address(fields: Fields) -> String {
-    let base = match fields.base {
-        31 => "the stack pointer".to_string(),
-        base => format!("register {base}"),
-    };
-    match fields.offset_register {
-        31 => format!("{base} + zero"),
-        offset => format!("{base} + register {offset}"),
-    }
 }
 
 /// What a word is that does not decode.
@@ -165,7 +156,7 @@ mod tests {
     }
 
     #[test]
-    fn each_kind_has_its_meaning() {
+    fn each_kind_of_move_has_its_meaning() {
         for (word, expected) in [
             (
                 0xC080ACA9,
@@ -187,6 +178,14 @@ mod tests {
             (0xC0064CFC, "move from array: 4 vectors; to vector registers 28 to 31"),
             (0xC0060A6A, "move and zero from array: 2 vectors; to vector registers 10 to 11"),
             (0xC0064EFC, "move and zero from array: 4 vectors; to vector registers 28 to 31"),
+        ] {
+            assert_eq!(meaning_of(word), expected);
+        }
+    }
+
+    #[test]
+    fn loads_and_stores_have_their_meaning() {
+        for (word, expected) in [
             (
                 0xE0220020,
                 "store from tile: 1-byte elements, tile 0, horizontal; predicate 0, \
@@ -196,6 +195,21 @@ mod tests {
                 0xE03F03E0,
                 "store from tile: 1-byte elements, tile 0, horizontal; predicate 0, \
                  at the stack pointer + zero",
+            ),
+            (
+                0xE0BE386B,
+                "store from tile: 4-byte elements, tile 2, horizontal; predicate 6, \
+                 at register 3 + 4 times register 30",
+            ),
+            (
+                0xE1C8FA6D,
+                "load to tile: 16-byte elements, tile 13, vertical; predicate 6, \
+                 at register 19 + 16 times register 8",
+            ),
+            (
+                0xE006AF2E,
+                "load to tile: 1-byte elements, tile 0, vertical; predicate 3, \
+                 at register 25 + register 6",
             ),
         ] {
             assert_eq!(meaning_of(word), expected);

@@ -136,6 +136,8 @@ fn every_answer_that_a_script_can_get_is_printed() {
     };
     let stack = "vector-bytes 16\npredicate 0 0100\nregister 31 8\nword E03F03E0";
     let outside = "vector-bytes 16\npredicate 0 0100\nregister 31 10\nword E03F03E0";
+    // Element 0 of 8 bytes begins one byte before memory ends.
+    let straddling = "vector-bytes 16\nmemory 00\npredicate 0 0100\nword E0DF0020";
     let memory = "memory-address FFFFFFFFFFFFFFFF\nmemory 0000\nword C0000000";
     for (script, expected) in [
         ("vector-bytes 16\nword C0000000", "0: done"),
@@ -154,6 +156,7 @@ fn every_answer_that_a_script_can_get_is_printed() {
         ("vector-bytes 16\narray off\nword C0000000", "5: ZA is off"),
         (stack, "6: the stack pointer is no multiple of 16"),
         (outside, "7: address 0000000000000010 is not in memory"),
+        (straddling, "7: address 0000000000000001 is not in memory"),
     ] {
         assert_eq!(answer(script), format!("  answer   {expected}"));
     }

@@ -14,13 +14,15 @@ use std::collections::BTreeMap;
 use std::time::Instant;
 use verdict::{judge, Verdict};
 
-const SCRIPTS: [&str; 6] = [
+const SCRIPTS: [&str; 8] = [
     include_str!("../example.txt"),
+    include_str!("scripts/access.txt"),
     include_str!("scripts/array.txt"),
     include_str!("scripts/fetch.txt"),
     include_str!("scripts/large.txt"),
     include_str!("scripts/refused.txt"),
     include_str!("scripts/store.txt"),
+    include_str!("scripts/top.txt"),
 ];
 
 fn number(variable: &str, default: u64) -> u64 {

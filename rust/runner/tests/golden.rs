@@ -20,7 +20,9 @@ fn read(name: &str) -> String {
     std::fs::read_to_string(&path).unwrap_or_else(|error| panic!("{path}: {error}"))
 }
 
-const SCRIPTS: [&str; 5] = ["array", "fetch", "large", "refused", "store"];
+const SCRIPTS: [&str; 7] = [
+    "access", "array", "fetch", "large", "refused", "store", "top",
+];
 
 #[test]
 fn the_example_prints_what_is_stored() {
@@ -96,8 +98,10 @@ fn is_assembler(text: &str) -> bool {
         let rest = text.strip_prefix(prefix);
         rest.is_some_and(|rest| rest.starts_with(|c: char| c.is_ascii_digit()))
     };
-    ["x", "w", "z", "p", "za"].into_iter().any(numbered)
-        || ["mova", "movaz", "mov", "st1b", "sp", "xzr"].contains(&text.as_str())
+    ["x", "w", "z", "p", "za", "ld", "st"]
+        .into_iter()
+        .any(numbered)
+        || ["mova", "movaz", "mov", "sp", "xzr"].contains(&text.as_str())
 }
 
 #[test]
@@ -105,7 +109,7 @@ fn nothing_is_said_in_assembler() {
     let mut texts = vec![output(&["--help"]), output(&[]), output(&["--map"])];
     texts.push(output(&[
         "--decode", "C0000000", "C0020200", "C0064CFC", "C0060A6A", "E03F03E0", "C0025569",
-        "C006086A", "C0064EFC",
+        "C006086A", "C0064EFC", "E0E4EBEB", "E08CC7AE",
     ]));
     texts.extend(SCRIPTS.map(|name| read(&format!("tests/scripts/{name}.stdout"))));
     texts.extend(SCRIPTS.map(|name| read(&format!("tests/scripts/{name}.txt"))));
@@ -114,8 +118,10 @@ fn nothing_is_said_in_assembler() {
         let mut words = text.split(|c: char| !c.is_ascii_alphanumeric());
         assert_eq!(words.find(|word| is_assembler(word)), None);
     }
-    assert!(["x12", "W12", "z3", "p0", "za1h", "ZA0", "MOVAZ"]
-        .into_iter()
-        .all(is_assembler));
+    assert!(
+        ["x12", "W12", "z3", "p0", "za1h", "ZA0", "MOVAZ", "ST1B", "LD1Q"]
+            .into_iter()
+            .all(is_assembler)
+    );
     assert!(!is_assembler("ZA") && !is_assembler("word") && !is_assembler("C0800000"));
 }

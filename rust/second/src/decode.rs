@@ -1,5 +1,5 @@
-//! Decoding of words (document 01, section 4, with the rows that request 1
-//! added to its table; answers of section 6).
+//! Decoding of words (document 01, section 4, with the rows that requests 1
+//! and 2 added to its table; answers of section 6).
 //!
 //! Written straight from the layouts: bits that tell the classes apart are
 //! tested first, then the fixed bits of the class, then the fields are cut
@@ -23,10 +23,11 @@ pub fn decode(word: u32, level: u8) -> Result<Flat, Refusal> {
     if level > HIGHEST_LEVEL {
         return Err(Refusal::Level);
     }
-    // Bits 31:24 part the moves (C0) from the store (E0).
+    // Bits 31:24 part the moves (C0) from the loads and stores (E0, and E1
+    // for those of the largest element).
     let operation = match word >> 24 {
         0xC0 => decode_move(word, level),
-        0xE0 => decode_store(word, level),
+        0xE0 | 0xE1 => decode_access(word, level),
         _ => None,
     };
     operation.ok_or(Refusal::Undecodable)
@@ -45,7 +46,7 @@ fn decode_move(word: u32, level: u8) -> Option<Flat> {
 
 /// MOVA to tile: V 15, Rs 14:13, Pg 12:10, Zn 9:5, tile and offset 3:0.
 fn mova_to_tile(word: u32) -> Option<Flat> {
-    let element_bytes = element_bytes(word)?;
+    let element_bytes = move_element_bytes(word)?;
     // Bit 4 is fixed at 0; every other bit is tested already or a field.
     if word & 0x10 != 0 {
         return None;
@@ -70,7 +71,7 @@ fn mova_to_tile(word: u32) -> Option<Flat> {
 /// 9 tells MOVAZ (1) from MOVA (0), which has Pg in bits 12:10 (page "MOVA
 /// (tile to vector, single)").
 fn tile_to_vector(word: u32, level: u8) -> Option<Flat> {
-    let element_bytes = element_bytes(word)?;
+    let element_bytes = move_element_bytes(word)?;
     let zeroing = word & 0x200 != 0;
     let predicate = ((word >> 10) & 7) as u8;
     let kind = match (zeroing, predicate) {
@@ -135,19 +136,23 @@ fn array_form(word: u32, kind: u8, vectors: u8) -> Option<Flat> {
     })
 }
 
-/// ST1B: Rm 20:16, V 15, Rs 14:13, Pg 12:10, Rn 9:5, immediate 3:0.
-fn decode_store(word: u32, level: u8) -> Option<Flat> {
-    // Bits 23:21 are fixed at 001 (bytes, and a store, not a load) and bit
-    // 4 at 0.
-    if level < SME || (word >> 21) & 7 != 0b001 || word & 0x10 != 0 {
+/// LD1 and ST1: Rm 20:16, V 15, Rs 14:13, Pg 12:10, Rn 9:5, tile and offset
+/// 3:0. Bit 21 tells a store (1) from a load (page "LD1 (scalar plus scalar,
+/// tile slice)").
+fn decode_access(word: u32, level: u8) -> Option<Flat> {
+    // Bit 4 is fixed at 0; every other bit is tested or a field.
+    if level < SME || word & 0x10 != 0 {
         return None;
     }
+    let element_bytes = access_element_bytes(word)?;
+    let (tile, offset) = split_slice(element_bytes, (word & 0xF) as u8);
+    let store = word & 0x0020_0000 != 0;
     Some(Flat {
-        kind: flat::STORE,
-        element_bytes: 1,
+        kind: if store { flat::STORE } else { flat::LOAD },
+        element_bytes,
         direction: ((word >> 15) & 1) as u8,
-        tile: 0,
-        offset: (word & 15) as u8,
+        tile,
+        offset,
         index: 12 + ((word >> 13) & 3) as u8,
         predicate: ((word >> 10) & 7) as u8,
         first_vector: 0,
@@ -157,11 +162,20 @@ fn decode_store(word: u32, level: u8) -> Option<Flat> {
     })
 }
 
-/// The element size of a tile move, from the size bits 23:22 and the Q bit
-/// 16. Q goes with the largest size only; with the others the word is not
-/// one of the table (example 3 in section 7).
-fn element_bytes(word: u32) -> Option<u8> {
-    let q = word & 0x0001_0000 != 0;
+/// The element size of a tile move: its Q bit is bit 16.
+fn move_element_bytes(word: u32) -> Option<u8> {
+    element_bytes(word, word & 0x0001_0000 != 0)
+}
+
+/// The element size of a load or store: its Q bit is bit 24.
+fn access_element_bytes(word: u32) -> Option<u8> {
+    element_bytes(word, word & 0x0100_0000 != 0)
+}
+
+/// The element size, from the size bits 23:22 and the Q bit. Q goes with
+/// the largest size only; with the others the word is not one of the table
+/// (example 3 in section 7).
+fn element_bytes(word: u32, q: bool) -> Option<u8> {
     match ((word >> 22) & 3, q) {
         (0b00, false) => Some(1),
         (0b01, false) => Some(2),

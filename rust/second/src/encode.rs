@@ -1,5 +1,5 @@
 //! Encoding of the eleven numbers (document 01, section 4, with the rows
-//! that request 1 added to its table; refusal 8 of section 6).
+//! that requests 1 and 2 added to its table; refusal 8 of section 6).
 //!
 //! Each kind starts from the base words of the table, checks every number
 //! against its range, and ors the fields in. A number that the kind does
@@ -17,6 +17,7 @@ pub fn encode(operation: &Flat) -> Result<u32, Refusal> {
         flat::MOVAZ_ARRAY => movaz_array(operation),
         flat::STORE => store(operation),
         flat::MOVA_FROM_TILE => mova_from_tile(operation),
+        flat::LOAD => load(operation),
         _ => None,
     };
     word.ok_or(Refusal::Field)
@@ -112,11 +113,34 @@ fn array_fields(f: &Flat) -> Option<u32> {
     Some(rv << 13 | offset << 5 | first)
 }
 
-/// ST1B: only the store of bytes is in the table, and it moves no vector
-/// register.
+/// ST1, five element sizes.
 fn store(f: &Flat) -> Option<u32> {
-    exactly(f.element_bytes, 1)?;
-    exactly(f.tile, 0)?;
+    let base = match f.element_bytes {
+        1 => 0xE020_0000,
+        2 => 0xE060_0000,
+        4 => 0xE0A0_0000,
+        8 => 0xE0E0_0000,
+        16 => 0xE1E0_0000,
+        _ => return None,
+    };
+    Some(base | access_fields(f)?)
+}
+
+/// LD1, five element sizes.
+fn load(f: &Flat) -> Option<u32> {
+    let base = match f.element_bytes {
+        1 => 0xE000_0000,
+        2 => 0xE040_0000,
+        4 => 0xE080_0000,
+        8 => 0xE0C0_0000,
+        16 => 0xE1C0_0000,
+        _ => return None,
+    };
+    Some(base | access_fields(f)?)
+}
+
+/// The fields that loads and stores share. They move no vector register.
+fn access_fields(f: &Flat) -> Option<u32> {
     exactly(f.first_vector, 0)?;
     exactly(f.vectors, 0)?;
     let rm = up_to(f.offset_register, 31)?;
@@ -124,8 +148,8 @@ fn store(f: &Flat) -> Option<u32> {
     let rs = register_from(f.index, 12)?;
     let pg = up_to(f.predicate, 7)?;
     let rn = up_to(f.base, 31)?;
-    let immediate = up_to(f.offset, 15)?;
-    Some(0xE020_0000 | rm << 16 | v << 15 | rs << 13 | pg << 10 | rn << 5 | immediate)
+    let slice = tile_with_offset(f)?;
+    Some(rm << 16 | v << 15 | rs << 13 | pg << 10 | rn << 5 | slice)
 }
 
 /// The four bits that tile and offset share. There are m tiles of m-byte

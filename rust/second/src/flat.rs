@@ -1,8 +1,8 @@
 //! The flat form: eleven bytes that stand for one decoded operation.
 //!
 //! Document 01, section 4 asks for one decoded form for each word and for
-//! registers by their true numbers; request 1 numbers the kinds. A field
-//! that a kind does not have is 0 here, so that the form of a word is
+//! registers by their true numbers; the amended table numbers the kinds. A
+//! field that a kind does not have is 0 here, so that the form of a word is
 //! unique.
 
 /// How many numbers the flat form has.
@@ -16,10 +16,12 @@ pub const MOVAZ_FROM_TILE: u8 = 2;
 pub const MOVA_ARRAY: u8 = 3;
 /// MOVAZ, array to vectors (two or four registers).
 pub const MOVAZ_ARRAY: u8 = 4;
-/// ST1B, store of an 8-bit tile slice.
+/// ST1, store of a tile slice of any element size.
 pub const STORE: u8 = 5;
 /// MOVA, tile slice to vector.
 pub const MOVA_FROM_TILE: u8 = 6;
+/// LD1, load of a tile slice of any element size.
+pub const LOAD: u8 = 7;
 
 /// The place of each number among the eleven.
 ///
@@ -42,7 +44,7 @@ pub mod place {
 /// One operation, or any eleven bytes offered as one.
 #[derive(Clone, Copy, Debug, Default, PartialEq, Eq)]
 pub struct Flat {
-    /// Which of the six kinds; see the constants above.
+    /// Which of the seven kinds; see the constants above.
     pub kind: u8,
     /// Bytes of an element: 1, 2, 4, 8 or 16; 0 for the array forms.
     pub element_bytes: u8,
@@ -56,14 +58,14 @@ pub struct Flat {
     pub index: u8,
     /// Governing predicate, 0 to 7; 0 for the kinds without one.
     pub predicate: u8,
-    /// First (or only) vector register.
+    /// First (or only) vector register; 0 for loads and stores.
     pub first_vector: u8,
-    /// Base register of a store; 31 is the stack pointer.
+    /// Base register of a load or store; 31 is the stack pointer.
     pub base: u8,
-    /// Offset register of a store; 31 reads as zero.
+    /// Offset register of a load or store; 31 reads as zero.
     pub offset_register: u8,
     /// Number of vector registers: 1 for the tile moves, 2 or 4 for the
-    /// array forms, 0 for a store.
+    /// array forms, 0 for loads and stores.
     pub vectors: u8,
 }
 

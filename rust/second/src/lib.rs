@@ -1,6 +1,6 @@
-//! An independent second program for document 01 with request 1: decodes,
-//! encodes and executes the words of eight SME instructions, and prints the
-//! inputs on which it is compared with the first.
+//! An independent second program for document 01 with requests 1 and 2:
+//! decodes, encodes and executes the words of nine SME instructions, and
+//! prints the inputs on which it is compared with the first.
 
 #![forbid(unsafe_code)]
 

@@ -21,7 +21,7 @@ pub enum Refusal {
     ZaOff,
     /// 6: the stack pointer is the base and is not a multiple of 16.
     StackPointer,
-    /// 7: an active element's address is not in memory.
+    /// 7: a byte of an active element is not in memory.
     Fault { address: u64 },
     /// 8: encoding only, a field outside its range.
     Field,

@@ -17,9 +17,10 @@ pub enum Refusal {
     StreamingOff,
     /// 5: ZA is off.
     ZaOff,
-    /// 6: the stack pointer is the base of a store with an active element, and no multiple of 16.
+    /// 6: the stack pointer is the base of a load or store with an active element, and no multiple of 16.
     StackMisaligned,
-    /// 7: a byte of an active element is not in memory; the first such byte's address.
+    /// 7: a byte of an active element is not in memory; the address of the first such byte of the lowest such
+    /// element.
     OutsideMemory { address: u64 },
     /// 8: no word encodes this operation.
     OutOfRange,

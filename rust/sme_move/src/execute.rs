@@ -14,7 +14,7 @@ pub struct Buffers<'a> {
     pub p: &'a [u8],
     /// The array, vector 0 first.
     pub za: &'a mut [u8],
-    /// Memory from the settings' memory address on, of any length.
+    /// Memory from the settings' memory address on, of any length. Only a store writes it.
     pub memory: &'a mut [u8],
 }
 

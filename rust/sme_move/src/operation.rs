@@ -62,7 +62,9 @@ pub enum Operation {
         index: u8,
         first: u8,
     },
-    /// Store the active elements of a slice of a tile to memory.
+    /// Store the active elements of a slice of a tile to memory. Element e starts at the address base + (offset
+    /// register + e) times its bytes, modulo 2^64, and its lowest byte is first; addresses need not be aligned.
+    /// Number 31 is the stack pointer as the base, and reads as zero as the offset register.
     St1 {
         size: ElementSize,
         direction: Direction,
@@ -82,6 +84,18 @@ pub enum Operation {
         index: u8,
         predicate: u8,
         vector: u8,
+    },
+    /// Load the active elements of a slice of a tile from memory, where [`Operation::St1`] would store them, and
+    /// zero its other elements.
+    Ld1 {
+        size: ElementSize,
+        direction: Direction,
+        tile: u8,
+        offset: u8,
+        index: u8,
+        predicate: u8,
+        base: u8,
+        offset_register: u8,
     },
 }
 

@@ -1,15 +1,16 @@
-//! Operations and words: the words of document 01's worked examples and of the rows that request 1
+//! Operations and words: the words of document 01's worked examples and of the rows that requests
 //! added, both ways, and a sweep.
 
 use sme_move::Direction::{Horizontal, Vertical};
 use sme_move::ElementSize::{Bits128, Bits16, Bits32, Bits64, Bits8};
-use sme_move::{decode, decode_fields, encode, Fields, Operation, Refusal, RegisterCount};
+use sme_move::{decode, decode_fields, encode};
+use sme_move::{Direction, ElementSize, Fields, Operation, Refusal, RegisterCount};
 
 /// A word, the lowest level that has it, its operation and its eleven numbers.
 type Known = (u32, u64, Operation, [u8; 11]);
 
 fn known() -> Vec<Known> {
-    [of_document(), of_tiles(), of_array()].concat()
+    [of_document(), of_tiles(), of_array(), of_accesses()].concat()
 }
 
 /// Words of document 01's worked examples.
@@ -151,6 +152,60 @@ fn of_array() -> Vec<Known> {
     ]
 }
 
+/// Loads of every size and stores of those that document 01 has not: kind, word, size, direction, and the numbers
+/// beside these.
+fn of_accesses() -> Vec<Known> {
+    let accesses = [
+        (5, 0xE071D52E, Bits16, Vertical, [1, 6, 14, 5, 9, 17]),
+        (5, 0xE0BE386B, Bits32, Horizontal, [2, 3, 13, 6, 3, 30]),
+        (5, 0xE0E4EBEB, Bits64, Vertical, [5, 1, 15, 2, 31, 4]),
+        (5, 0xE1F55D4B, Bits128, Horizontal, [11, 0, 14, 7, 10, 21]),
+        (7, 0xE006AF2E, Bits8, Vertical, [0, 14, 13, 3, 25, 6]),
+        (7, 0xE05F724D, Bits16, Horizontal, [1, 5, 15, 4, 18, 31]),
+        (7, 0xE08CC7AE, Bits32, Vertical, [3, 2, 14, 1, 29, 12]),
+        (7, 0xE0DB37ED, Bits64, Horizontal, [6, 1, 13, 5, 31, 27]),
+        (7, 0xE1C8FA6D, Bits128, Vertical, [13, 0, 15, 6, 19, 8]),
+    ];
+    let known = |(kind, word, size, direction, numbers)| {
+        let operation = access(kind, size, direction, numbers);
+        let [tile, offset, index, predicate, base, offset_register] = numbers;
+        let (m, v) = (size.bytes(), direction.number());
+        let slice = [kind, m, v, tile, offset, index, predicate];
+        let mut numbers = [0; 11];
+        numbers[..7].copy_from_slice(&slice);
+        numbers[8..10].copy_from_slice(&[base, offset_register]);
+        (word, 1, operation, numbers)
+    };
+    accesses.map(known).to_vec()
+}
+
+/// A store, kind 5, or a load.
+fn access(kind: u8, size: ElementSize, direction: Direction, numbers: [u8; 6]) -> Operation {
+    let [tile, offset, index, predicate, base, offset_register] = numbers;
+    if kind == 5 {
+        return Operation::St1 {
+            size,
+            direction,
+            tile,
+            offset,
+            index,
+            predicate,
+            base,
+            offset_register,
+        };
+    }
+    Operation::Ld1 {
+        size,
+        direction,
+        tile,
+        offset,
+        index,
+        predicate,
+        base,
+        offset_register,
+    }
+}
+
 #[test]
 fn known_words_decode_and_encode() {
     for (word, lowest, operation, numbers) in known() {
@@ -179,7 +234,7 @@ fn no_level_above_3_decodes() {
 #[test]
 fn numbers_of_no_operation_are_refused() {
     for (_, _, _, numbers) in known() {
-        for (place, wrong) in [(0, 0), (0, 7), (0, 9), (1, 3), (2, 2), (10, 3)] {
+        for (place, wrong) in [(0, 0), (0, 8), (0, 9), (1, 3), (2, 2), (10, 3)] {
             let mut other = numbers;
             other[place] = wrong;
             assert_eq!(Fields::from(other).operation(), None);
@@ -205,7 +260,21 @@ fn added_operations_have_ranges() {
         let outside = [(4, 8), (5, 7), (5, 12), (7, numbers.vector + 1), (7, 32)];
         outside.map(|(place, wrong)| (numbers, place, wrong))
     });
-    for (numbers, place, wrong) in tiles.chain(array) {
+    let accesses = of_accesses().into_iter().flat_map(|(_, _, operation, _)| {
+        let numbers = Fields::from(operation);
+        let (tiles, offsets) = (numbers.element_bytes, 16 / numbers.element_bytes);
+        let outside = [
+            (3, tiles),
+            (4, offsets),
+            (5, 11),
+            (5, 16),
+            (6, 8),
+            (8, 32),
+            (9, 32),
+        ];
+        outside.map(|(place, wrong)| (numbers, place, wrong))
+    });
+    for (numbers, place, wrong) in tiles.chain(array).chain(accesses) {
         let mut other: [u8; 11] = numbers.into();
         other[place] = wrong;
         let operation = Fields::from(other).operation().expect("an operation");
@@ -213,11 +282,22 @@ fn added_operations_have_ranges() {
     }
 }
 
-/// Every 61st word of the two top bytes that have instructions.
+/// A load or store has no vector register, and no other kind has its registers.
+#[test]
+fn what_a_kind_has_not_is_zero() {
+    for (_, _, operation, mut numbers) in known() {
+        let accesses = matches!(operation, Operation::St1 { .. } | Operation::Ld1 { .. });
+        let place = if accesses { 7 } else { 8 };
+        numbers[place] = 1;
+        assert_eq!(Fields::from(numbers).operation(), None, "{operation:?}");
+    }
+}
+
+/// Every 61st word of the three top bytes that have instructions.
 #[test]
 fn what_decodes_encodes_back() {
     let mut decoded = 0;
-    for top in [0xC000_0000, 0xE000_0000u32] {
+    for top in [0xC000_0000, 0xE000_0000, 0xE100_0000u32] {
         for word in (top..top + (1 << 24)).step_by(61) {
             let operation = decode(word, 3);
             assert_eq!(operation.map(Fields::from), decode_fields(word, 3));
@@ -227,5 +307,5 @@ fn what_decodes_encodes_back() {
             }
         }
     }
-    assert!(decoded > 10_000, "only {decoded} words decoded");
+    assert!(decoded > 100_000, "only {decoded} words decoded");
 }

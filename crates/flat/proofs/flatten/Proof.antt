@@ -17,10 +17,13 @@ returns-4 : tie.Need-returns-4
 returns-4 c = rw (c .number2 .ensures .0, c .before .before .operation4 .given .1)
 
 returns-5 : tie.Need-returns-5
-returns-5 c = rw (c .tile-numbers3 .ensures, c .before .before .operation5 .given .1)
+returns-5 c = rw (c .access-numbers .ensures, c .before .before .operation5 .given .1)
 
 returns-6 : tie.Need-returns-6
-returns-6 c = rw (c .tile-numbers4 .ensures, c .before .before .before .operation6 .given .1)
+returns-6 c = rw (c .tile-numbers3 .ensures, c .before .before .before .operation6 .given .1)
+
+returns-7 : tie.Need-returns-7
+returns-7 c = rw (c .access-numbers2 .ensures, c .before .before .operation7 .given .1)
 
 pub flatten-spec : {M : Type 1} → statement M
 flatten-spec =
@@ -38,9 +41,12 @@ flatten-spec =
     (λ c κs. search needs)
     (λ c. search needs)
     (λ c κs. search needs)
+    (λ c. search needs)
+    (λ c κs. search needs)
     returns
     returns-2
     returns-3
     returns-4
     returns-5
-    returns-6)
+    returns-6
+    returns-7)

@@ -21,17 +21,17 @@ returns-4 : tie.Need-returns-4
 returns-4 c = rw (c .array-to-vectors-of2 .ensures, c .before .match .keys4)
 
 returns-5 : tie.Need-returns-5
-returns-5 c =
-    let at-match = c .before .before .before .before .before .before in
-    let at-direction = at-match .before in
-    rw (at-direction .before .before .before .of-bytes .ensures, at-direction .of-number .ensures, at-direction .before .wide .ensures, at-match .match .keys5)
+returns-5 c = rw (c .slice-access-of .ensures, c .before .match .keys5)
 
 returns-6 : tie.Need-returns-6
-returns-6 c =
-    let at-match = c .before .before in
+returns-6 c = rw (c .tile-to-vector-of2 .ensures, c .before .before .match .keys6)
+
+returns-7 : tie.Need-returns-7
+returns-7 c =
+    let at-match = c .before in
     let entry = at-match .before .before .before .before .before .before .before in
     let r = at-match .match .rest in
-    rw (c .tile-to-vector-of2 .ensures) (last-kind (entry .args .numbers .now) (r .0 .0 .0 .0 .1) (r .0 .0 .0 .1) (r .0 .0 .1) (r .0 .1) (r .1))
+    rw (c .slice-access-of2 .ensures) (last-kind (entry .args .numbers .now) (r .0 .0 .0 .0 .0 .1) (r .0 .0 .0 .0 .1) (r .0 .0 .0 .1) (r .0 .0 .1) (r .0 .1) (r .1))
 
 pub operation-of-spec : {M : Type 1} → statement M
 operation-of-spec =
@@ -51,17 +51,14 @@ operation-of-spec =
     (λ c κs. search needs)
     (λ c κs. search needs)
     (λ c κs. search needs)
+    (λ c κs. search needs)
     (λ c. search needs)
-    (λ c. search needs)
-    (λ c. search needs)
-    (λ c. search needs)
-    (λ c. search needs)
-    (λ c. search needs)
-    (λ c. search needs)
+    (λ c κs. search needs)
     (λ c κs. search needs)
     returns
     returns-2
     returns-3
     returns-4
     returns-5
-    returns-6)
+    returns-6
+    returns-7)

@@ -9,7 +9,7 @@ use Rattle.tiles.specs.Scatter.{from}
 use Rattle.moves.specs.Column.{strided}
 use Rattle.moves.proofs.BlockLaws.{block-within-as, scatter-as, gather-as}
 use Rattle.moves.proofs.ColumnLaws.{strided-from-as}
-use Rattle.slices.proofs.SliceLaws.{run-within, column-within, slice-run, slice-column, step-vertical, products-small}
+use Rattle.slices.proofs.SliceLaws.{run-within, columned, slice-run, products-small}
 use Rattle.slices.proofs.merge_from_slice.Statement.{statement}
 use Rattle.slices.proofs.merge_from_slice.Tie as tie
 
@@ -33,17 +33,13 @@ merge-column-requires c κs =
     let at-start = at-arm .before .before in
     let entry = at-start .before .before .before .before in
     let a = entry .args in
-    let m = bytesOf (a .size) in
     let same = at-bytes .bytes .ensures .0 in
-    let count : at-count .elements-in .result * m ≡ a .vector-bytes =
-    rw (at-count .elements-in .ensures) (entry .pre .0 .size) in
-    let step = step-vertical (a .stride) m (a .direction) same (at-arm .enum-told2 .given .1) in
-    let within =
-    column-within _ _ _ _ _ _ (entry .pre .0) (a .direction) _ _ (at-start .slice-start .ensures) step in (
+    let column = columned _ _ _ _ _ _ (entry .pre .0) (a .direction) (at-start .slice-start .ensures) same (at-arm .enum-told2 .given .1) (at-count .elements-in .ensures) in
+    let within = column .within in (
       omega arith,
       (
-        λ e w. omega (arith, block-within-as e (at-count .elements-in .result) same w),
-        λ e w. omega (arith, within e (rw (at-count .elements-in .ensures) at w)),
+        λ e w. omega (arith, block-within-as e (at-count .elements-in .result) same w, column .bytes),
+        λ e w. omega (arith, column .within e w),
       ),
     )
 
@@ -70,13 +66,9 @@ returns-2 c =
     let a = entry .args in
     let m = bytesOf (a .size) in
     let same = at-bytes .bytes .ensures .0 in
-    let count : at-count .elements-in .result * m ≡ a .vector-bytes =
-    rw (at-count .elements-in .ensures) (entry .pre .0 .size) in
-    let step = step-vertical (a .stride) m (a .direction) same (at-arm .enum-told2 .given .1) in
-    let column =
-    slice-column (a .stride) m (a .tile) (a .direction) (a .slice) _ _ (at-start .slice-start .ensures) step in
+    let column = columned _ _ _ _ _ _ (entry .pre .0) (a .direction) (at-start .slice-start .ensures) same (at-arm .enum-told2 .given .1) (at-count .elements-in .ensures) in
     let places = strided (at-start .slice-start .result) (at-bytes .bytes .result * a .stride) m in
-    gather-as _ _ places _ (a .za .now) _ _ _ (scatter-as _ _ _ _ _ _ _ (at-merge-column .merge-column .ensures) (strided-from-as (a .at-dst) same) refl) column count
+    gather-as _ _ places _ (a .za .now) _ _ _ (scatter-as _ _ _ _ _ _ _ (at-merge-column .merge-column .ensures) (strided-from-as (a .at-dst) same) refl) (column .places) (column .bytes)
 
 pub merge-from-slice-spec : {M : Type 1} → statement M
 merge-from-slice-spec =

@@ -7,7 +7,7 @@ use native.Mathlib.Omega.{arith}
 use Rattle.encoding.specs.Flat.{bytesOf}
 use Rattle.moves.proofs.BlockLaws.{block-within-as, scatter-as}
 use Rattle.moves.proofs.ColumnLaws.{read-from-as}
-use Rattle.slices.proofs.SliceLaws.{run-within, column-within, slice-run, slice-column, step-vertical, vector-fits, products-small}
+use Rattle.slices.proofs.SliceLaws.{run-within, columned, slice-run, vector-fits, products-small}
 use Rattle.slices.proofs.move_to_slice.Statement.{statement}
 use Rattle.slices.proofs.move_to_slice.Tie as tie
 
@@ -31,17 +31,13 @@ merge-column-requires c κs =
     let at-start = at-arm .before .before in
     let entry = at-start .before .before .before .before in
     let a = entry .args in
-    let m = bytesOf (a .size) in
     let same = at-bytes .bytes .ensures .0 in
-    let count : at-count .elements-in .result * m ≡ a .vector-bytes =
-    rw (at-count .elements-in .ensures) (entry .pre .0 .size) in
-    let step = step-vertical (a .stride) m (a .direction) same (at-arm .enum-told2 .given .1) in
-    let within =
-    column-within _ _ _ _ _ _ (entry .pre .0) (a .direction) _ _ (at-start .slice-start .ensures) step in (
+    let column = columned _ _ _ _ _ _ (entry .pre .0) (a .direction) (at-start .slice-start .ensures) same (at-arm .enum-told2 .given .1) (at-count .elements-in .ensures) in
+    let within = column .within in (
       omega (arith, vector-fits _ _ _ _ _ _ (entry .pre .0)),
       (
-        λ e w. omega (arith, within e (rw (at-count .elements-in .ensures) at w)),
-        λ e w. omega (arith, block-within-as e (at-count .elements-in .result) same w),
+        λ e w. omega (arith, column .within e w),
+        λ e w. omega (arith, block-within-as e (at-count .elements-in .result) same w, column .bytes),
       ),
     )
 
@@ -66,14 +62,9 @@ returns-2 c =
     let at-start = at-arm .before .before in
     let entry = at-start .before .before .before .before in
     let a = entry .args in
-    let m = bytesOf (a .size) in
     let same = at-bytes .bytes .ensures .0 in
-    let count : at-count .elements-in .result * m ≡ a .vector-bytes =
-    rw (at-count .elements-in .ensures) (entry .pre .0 .size) in
-    let step = step-vertical (a .stride) m (a .direction) same (at-arm .enum-told2 .given .1) in
-    let column =
-    slice-column (a .stride) m (a .tile) (a .direction) (a .slice) _ _ (at-start .slice-start .ensures) step in
-    scatter-as _ _ _ _ _ _ _ (read-from-as _ _ (a .z .now) (a .zbase) _ _ same (at-merge-column .merge-column .ensures)) column count
+    let column = columned _ _ _ _ _ _ (entry .pre .0) (a .direction) (at-start .slice-start .ensures) same (at-arm .enum-told2 .given .1) (at-count .elements-in .ensures) in
+    scatter-as _ _ _ _ _ _ _ (read-from-as _ _ (a .z .now) (a .zbase) _ _ same (at-merge-column .merge-column .ensures)) (column .places) (column .bytes)
 
 pub move-to-slice-spec : {M : Type 1} → statement M
 move-to-slice-spec =

@@ -1,14 +1,14 @@
 -- `slices::take_slice` meets its contract: a horizontal slice is a run of bytes, a vertical one a column.
 -- Assumes nothing.
 use borrow.Author.Needs.{needs}
-use mathlib.Core.Path.{_≡_, refl}
+use mathlib.Core.Path.{refl}
 use Prim.Native.Nat.{_*_, _≤_}
 use native.Mathlib.Omega.{arith}
 use Rattle.encoding.specs.Flat.{bytesOf}
 use Rattle.tiles.specs.Scatter.{from}
 use Rattle.moves.specs.Column.{strided}
 use Rattle.moves.proofs.BlockLaws.{scatter-as, gather-as}
-use Rattle.slices.proofs.SliceLaws.{run-within, column-within, column-apart, slice-run, slice-column, step-vertical, products-small}
+use Rattle.slices.proofs.SliceLaws.{run-within, columned, column-apart, slice-run, products-small}
 use Rattle.slices.proofs.take_slice.Statement.{statement}
 use Rattle.slices.proofs.take_slice.Tie as tie
 
@@ -40,14 +40,10 @@ take-column-requires c κs =
     let entry = at-start .before .before .before in
     let a = entry .args in
     let m = bytesOf (a .size) in
-    let count : at-count .elements-in .result * m ≡ a .vector-bytes =
-    rw (at-count .elements-in .ensures) (entry .pre .0 .size) in
-    let step = step-vertical (a .stride) m (a .direction) (at-bytes .bytes .ensures .0) (at-arm .enum-told2 .given .1) in
+    let column = columned _ _ _ _ _ _ (entry .pre .0) (a .direction) (at-start .slice-start .ensures) (at-bytes .bytes .ensures .0) (at-arm .enum-told2 .given .1) (at-count .elements-in .ensures) in
     let apart : m ≤ at-bytes .bytes .result * a .stride =
     rw (at-bytes .bytes .ensures .0) (column-apart _ _ _ _ _ _ (entry .pre .0)) in
-    let within =
-    column-within _ _ _ _ _ _ (entry .pre .0) (a .direction) _ _ (at-start .slice-start .ensures) step in
-    (omega arith, λ e w. omega (arith, within e (rw (at-count .elements-in .ensures) at w)))
+    (omega arith, λ e w. omega (arith, column .within e w))
 
 returns : tie.Need-returns
 returns c =
@@ -71,13 +67,9 @@ returns-2 c =
     let entry = at-start .before .before .before in
     let a = entry .args in
     let m = bytesOf (a .size) in
-    let count : at-count .elements-in .result * m ≡ a .vector-bytes =
-    rw (at-count .elements-in .ensures) (entry .pre .0 .size) in
-    let step = step-vertical (a .stride) m (a .direction) (at-bytes .bytes .ensures .0) (at-arm .enum-told2 .given .1) in
-    let column =
-    slice-column (a .stride) m (a .tile) (a .direction) (a .slice) _ _ (at-start .slice-start .ensures) step in
+    let column = columned _ _ _ _ _ _ (entry .pre .0) (a .direction) (at-start .slice-start .ensures) (at-bytes .bytes .ensures .0) (at-arm .enum-told2 .given .1) (at-count .elements-in .ensures) in
     let places = strided (at-start .slice-start .result) (at-bytes .bytes .result * a .stride) m in
-    (gather-as _ _ places _ (a .za .now) _ _ _ (at-take-column .take-column .ensures .0) column count, scatter-as _ _ _ _ _ _ _ (at-take-column .take-column .ensures .1) column count)
+    (gather-as _ _ places _ (a .za .now) _ _ _ (at-take-column .take-column .ensures .0) (column .places) (column .bytes), scatter-as _ _ _ _ _ _ _ (at-take-column .take-column .ensures .1) (column .places) (column .bytes))
 
 pub take-slice-spec : {M : Type 1} → statement M
 take-slice-spec =

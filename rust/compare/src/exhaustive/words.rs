@@ -10,9 +10,8 @@ use std::ops::RangeInclusive;
 /// How many levels there are.
 const LEVELS: usize = Settings::MAX_LEVEL as usize + 1;
 
-/// How many of all words decode at each level, as request 1 says; an
-/// independent disassembler counts the same.
-pub const DECODING: [u64; LEVELS] = [0, 1_376_256, 1_377_024, 1_398_272];
+/// How many of all words decode at each level, as request 2 says.
+pub const DECODING: [u64; LEVELS] = [0, 10_813_440, 10_814_208, 10_835_456];
 
 /// One past the last word.
 const ALL: u64 = 1 << 32;

@@ -1,4 +1,5 @@
-//! Base and offset register of a store, aimed into memory or out of it.
+//! Base and offset register of a load or store, aimed into memory or out of
+//! it.
 
 use super::causes::Causes;
 use super::predicates;
@@ -10,25 +11,32 @@ use second::inputs::random::Random;
 /// The number with two meanings.
 const THIRTY_ONE: usize = 31;
 
-/// The lowest and the highest active element.
+/// The lowest and the highest active element, of m bytes each.
 #[derive(Clone, Copy)]
 struct Span {
     low: u64,
     high: u64,
+    m: u64,
 }
 
 impl Span {
+    /// From the lowest element's first byte to the highest one's last.
     fn bytes(self) -> u64 {
-        self.high - self.low + 1
+        (self.high - self.low + 1) * self.m
+    }
+
+    /// How many bytes of element 0 and so on come before the lowest.
+    fn before(self) -> u64 {
+        self.low * self.m
     }
 }
 
-/// Sets the registers so that the store is done or refused, as the causes
+/// Sets the registers so that the access is done or refused, as the causes
 /// say.
 pub fn set(random: &mut Random, case: &mut Case, operation: &Flat, causes: &Causes) {
     let refused = causes.has(6) || causes.has(7);
     fit_predicate(random, case, operation, refused);
-    let span = span(predicates::register(case, operation));
+    let span = span(predicates::register(case, operation), operation);
     let start = match span {
         None => value(random),
         Some(span) if causes.has(7) => outside(random, case, span),
@@ -41,38 +49,41 @@ pub fn set(random: &mut Random, case: &mut Case, operation: &Flat, causes: &Caus
     set_registers(random, case, operation, start, aligned);
 }
 
-/// A refused store needs an active element. One that is to be done must
+/// A refused access needs an active element. One that is to be done must
 /// have its active elements close enough together for memory.
 fn fit_predicate(random: &mut Random, case: &mut Case, operation: &Flat, refused: bool) {
-    let room = case.memory.len() as u64;
+    let m = usize::from(operation.element_bytes);
+    let room = case.memory.len() / m;
     let register = predicates::register(case, operation);
-    match span(register) {
+    match span(register, operation) {
         None if refused => {
-            let bit = random.below(8 * register.len());
-            register[bit / 8] = 1 << (bit % 8);
+            let bit = m * random.below(8 * register.len() / m);
+            register[bit / 8] |= 1 << (bit % 8);
         }
-        Some(span) if !refused => clear_from(register, span.low + room),
+        Some(span) if !refused => clear_from(register, (span.low as usize + room) * m),
         _ => (),
     }
 }
 
 /// Clears the bits from `first` on.
-fn clear_from(register: &mut [u8], first: u64) {
-    for bit in first as usize..8 * register.len() {
+fn clear_from(register: &mut [u8], first: usize) {
+    for bit in first..8 * register.len() {
         register[bit / 8] &= !(1 << (bit % 8));
     }
 }
 
-fn span(register: &[u8]) -> Option<Span> {
-    let active = |bit: &u64| register[*bit as usize / 8] >> (bit % 8) & 1 == 1;
-    let mut bits = (0..8 * register.len() as u64).filter(active);
-    let low = bits.next()?;
-    let high = bits.next_back().unwrap_or(low);
-    Some(Span { low, high })
+fn span(register: &[u8], operation: &Flat) -> Option<Span> {
+    let m = u64::from(operation.element_bytes);
+    let active = |e: &u64| register[(e * m) as usize / 8] >> (e * m % 8) & 1 == 1;
+    let mut elements = (0..8 * register.len() as u64 / m).filter(active);
+    let low = elements.next()?;
+    let high = elements.next_back().unwrap_or(low);
+    Some(Span { low, high, m })
 }
 
 /// An address of element 0 that puts all active elements into memory, often
-/// at one of its ends. Where memory is too small the last ones stay out.
+/// at one of its ends, where inactive ones are then outside. Where memory is
+/// too small the last active ones stay out.
 fn inside(random: &mut Random, case: &Case, span: Span) -> u64 {
     let spare = (case.memory.len() as u64).saturating_sub(span.bytes());
     let place = match random.below(4) {
@@ -81,26 +92,44 @@ fn inside(random: &mut Random, case: &Case, span: Span) -> u64 {
         _ => random.below(spare as usize + 1) as u64,
     };
     let low = case.settings.memory_address.wrapping_add(place);
-    low.wrapping_sub(span.low)
+    low.wrapping_sub(span.before())
 }
 
 /// An address of element 0 that leaves an active element outside: some out
-/// below memory, some out above it, wrapping near 2^64, or anywhere.
+/// below memory, some out above it, one over its end or its start, wrapping
+/// near 2^64, or anywhere.
 fn outside(random: &mut Random, case: &Case, span: Span) -> u64 {
     let first = case.settings.memory_address;
+    let end = first.wrapping_add(case.memory.len() as u64);
     let by = random.below(span.bytes() as usize) as u64;
-    match random.below(8) {
-        0..=2 => first.wrapping_sub(1 + by + span.low),
+    match random.below(16) {
+        0..=2 => first.wrapping_sub(1 + by + span.before()),
         3..=5 => {
-            let end = first.wrapping_add(case.memory.len() as u64);
-            end.wrapping_add(by).wrapping_sub(span.high)
+            let last = span.before() + span.bytes() - 1;
+            end.wrapping_add(by).wrapping_sub(last)
         }
-        6 => random.below(600).wrapping_neg() as u64,
+        6..=9 => over(random, end, span),
+        10..=13 => over(random, first, span),
+        14 => random.below(600).wrapping_neg() as u64,
         _ => random.bits(),
     }
 }
 
-/// Shares `start` between base and offset register.
+/// An address of element 0 with which the lowest or the highest active
+/// element has some of its bytes before `edge` and some not, if it has more
+/// than one, and sometimes none before.
+fn over(random: &mut Random, edge: u64, span: Span) -> u64 {
+    let e = random.pick(&[span.low, span.low, span.high]);
+    let before = if span.m == 1 || random.chance(1, 6) {
+        0
+    } else {
+        1 + random.below(span.m as usize - 1) as u64
+    };
+    edge.wrapping_sub(before + e * span.m)
+}
+
+/// Shares `start` between base and offset register, of which the latter is
+/// times m.
 fn set_registers(
     random: &mut Random,
     case: &mut Case,
@@ -108,24 +137,49 @@ fn set_registers(
     start: u64,
     aligned: bool,
 ) {
+    let m = u64::from(operation.element_bytes);
     let base = usize::from(operation.base);
     let offset = usize::from(operation.offset_register);
     let index = usize::from(operation.index);
     if base == THIRTY_ONE && offset == THIRTY_ONE {
         case.x[base] = stack_pointer_at(case, start, aligned);
-    } else if base == THIRTY_ONE {
-        case.x[base] = stack_pointer(random, aligned);
-        case.x[offset] = start.wrapping_sub(case.x[base]);
     } else if offset == THIRTY_ONE {
         case.x[base] = start;
     } else if base == offset {
-        // Twice the register is the sum; an odd one cannot be met.
-        case.x[base] = (start / 2) | (random.bits() << 63);
-    } else if base == index || random.chance(1, 2) {
-        case.x[offset] = start.wrapping_sub(case.x[base]);
+        case.x[base] = one_for_both(random, start, m);
+    } else if base == THIRTY_ONE || base == index || random.chance(1, 2) {
+        if base == THIRTY_ONE {
+            case.x[base] = stack_pointer(random, aligned);
+        }
+        case.x[offset] = offset_to(random, case, start, case.x[base], m);
     } else {
-        case.x[base] = start.wrapping_sub(case.x[offset]);
+        case.x[base] = start.wrapping_sub(case.x[offset].wrapping_mul(m));
     }
+}
+
+/// The register that is base and offset at once: 1 + m times it is `start`.
+/// For bytes that is twice it, and an odd sum cannot be met.
+fn one_for_both(random: &mut Random, start: u64, m: u64) -> u64 {
+    if m == 1 {
+        return start / 2 | random.bits() << 63;
+    }
+    // 1 + m is odd and so its own inverse modulo 8; each step doubles the
+    // number of bits for which that is so.
+    let step = |own: u64, _| own.wrapping_mul(2_u64.wrapping_sub(own.wrapping_mul(1 + m)));
+    start.wrapping_mul((0..5).fold(1 + m, step))
+}
+
+/// The offset that leads from `base` to `start`. Where the distance is no
+/// multiple of m, memory is moved along with `start`. The product of offset
+/// and m has no place for the offset's highest bits, so that these are free.
+fn offset_to(random: &mut Random, case: &mut Case, start: u64, base: u64, m: u64) -> u64 {
+    let over = start.wrapping_sub(base) % m;
+    let start = moved_along(case, start, over, m);
+    let offset = start.wrapping_sub(base) / m;
+    if m == 1 || random.chance(1, 2) {
+        return offset;
+    }
+    offset | random.bits() << (64 - m.ilog2())
 }
 
 /// A stack pointer whose difference from the address the offset makes up.
@@ -142,15 +196,22 @@ fn stack_pointer(random: &mut Random, aligned: bool) -> u64 {
 /// memory is moved along with it.
 fn stack_pointer_at(case: &mut Case, start: u64, aligned: bool) -> u64 {
     let over = start % 16;
-    if !aligned {
-        return start | u64::from(over == 0);
+    if aligned {
+        moved_along(case, start, over, 16)
+    } else {
+        start | u64::from(over == 0)
     }
+}
+
+/// Moves memory, and `start` with it, down by `over` or as far up that both
+/// ways together are `unit`.
+fn moved_along(case: &mut Case, start: u64, over: u64, unit: u64) -> u64 {
     let memory = &mut case.settings.memory_address;
     if *memory >= over {
         *memory -= over;
-        start - over
+        start.wrapping_sub(over)
     } else {
-        *memory += 16 - over;
-        start.wrapping_add(16 - over)
+        *memory += unit - over;
+        start.wrapping_add(unit - over)
     }
 }

@@ -1,14 +1,14 @@
 //! Which causes of refusal a case is to have.
 
-use crate::rows::{Drawn, STORE};
+use crate::rows::Drawn;
 use second::inputs::random::Random;
 
 /// How many of a hundred cases are aimed at each answer. More than half are
 /// to be done, as only those move anything.
 const SHARES: [usize; 8] = [60, 6, 6, 8, 4, 4, 4, 8];
 
-/// The lowest answer that only a store is given.
-const STORES_ONLY: usize = 6;
+/// The lowest answer that only loads and stores are given.
+const ACCESSES_ONLY: usize = 6;
 
 /// The causes by their numbers; no cause is no refusal.
 pub struct Causes {
@@ -20,10 +20,10 @@ impl Causes {
     /// refusal often gets causes of higher numbers too, which must not show
     /// (document 01, section 6: the lowest number that applies is given).
     pub fn draw(random: &mut Random, drawn: Drawn) -> Causes {
-        let lowest = if drawn.has(STORE) {
+        let lowest = if drawn.has_access() {
             answer(random, &SHARES)
         } else {
-            answer(random, &SHARES[..STORES_ONLY])
+            answer(random, &SHARES[..ACCESSES_ONLY])
         };
         let mut present = [false; 8];
         if lowest > 0 {
@@ -39,10 +39,10 @@ impl Causes {
         self.present[number]
     }
 
-    /// Whether the lowest cause is one that only a store has.
-    pub fn needs_store(&self) -> bool {
+    /// Whether the lowest cause is one that only loads and stores have.
+    pub fn needs_access(&self) -> bool {
         let lowest = self.present.iter().position(|own| *own);
-        lowest.is_some_and(|number| number >= STORES_ONLY)
+        lowest.is_some_and(|number| number >= ACCESSES_ONLY)
     }
 }
 

@@ -3,15 +3,17 @@
 use crate::case::Case;
 use second::inputs::random::Random;
 
-/// A length, often about one vector, sometimes none at all.
-pub fn length(random: &mut Random, vector_bytes: usize) -> usize {
-    match random.below(12) {
+/// A length, often about one vector, sometimes about one element or none at
+/// all.
+pub fn length(random: &mut Random, vector_bytes: usize, element_bytes: usize) -> usize {
+    match random.below(14) {
         0 => 0,
         1 => 1,
         2 => vector_bytes - 1,
         3 => vector_bytes,
         4 => vector_bytes + 1,
         5 => 2 * vector_bytes,
+        6 | 7 => random.below(2 * element_bytes + 2),
         _ => random.below(3 * vector_bytes + 16),
     }
 }

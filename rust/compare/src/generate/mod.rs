@@ -13,9 +13,9 @@ pub mod settings;
 mod words;
 
 use crate::case::Case;
-use crate::rows::Drawn;
+use crate::rows::{is_access, Drawn};
 use causes::Causes;
-use second::flat::{self, Flat};
+use second::flat::Flat;
 use second::inputs::random::Random;
 
 /// Fills `case` anew, with a word of one of the rows that are drawn from or,
@@ -27,11 +27,10 @@ pub fn generate(random: &mut Random, case: &mut Case, drawn: Drawn) {
     let operation = Flat::from_bytes(row.numbers(&bits));
     case.word = row.word(&bits);
     settings::set(random, case, row.level);
-    let vector_bytes = case.settings.vector_bytes as usize;
-    fill(random, case, vector_bytes);
+    fill(random, case, &operation);
     predicates::set(random, case, &operation);
     registers::set_index(random, case, &operation);
-    if operation.kind == flat::STORE {
+    if is_access(operation.kind) {
         addresses::set(random, case, &operation, &causes);
     }
     spoil(random, case, row.level, &causes);
@@ -39,13 +38,15 @@ pub fn generate(random: &mut Random, case: &mut Case, drawn: Drawn) {
 
 /// Buffers of the right lengths with random bytes. Memory is placed first,
 /// as addresses are aimed at it.
-fn fill(random: &mut Random, case: &mut Case, vector_bytes: usize) {
+fn fill(random: &mut Random, case: &mut Case, operation: &Flat) {
+    let vector_bytes = case.settings.vector_bytes as usize;
     case.x.clear();
     case.x.extend((0..32).map(|_| registers::value(random)));
     fill_bytes(random, &mut case.z, 32 * vector_bytes);
     fill_bytes(random, &mut case.p, 16 * (vector_bytes / 8));
     fill_bytes(random, &mut case.za, vector_bytes * vector_bytes);
-    let length = memory::length(random, vector_bytes);
+    let element_bytes = usize::from(operation.element_bytes);
+    let length = memory::length(random, vector_bytes, element_bytes);
     fill_bytes(random, &mut case.memory, length);
     case.settings.memory_address = memory::address(random, length);
 }
@@ -55,9 +56,10 @@ fn fill_bytes(random: &mut Random, bytes: &mut Vec<u8>, length: usize) {
     random.fill(bytes);
 }
 
-/// Puts in the causes 1 to 5; the store's own two are in its addresses
-/// already. Lengths are spoiled before the vector length, so that they are
-/// also wrong by one from what a refused vector length would fix.
+/// Puts in the causes 1 to 5; the two that only loads and stores have are in
+/// their addresses already. Lengths are spoiled before the vector length, so
+/// that they are also wrong by one from what a refused vector length would
+/// fix.
 fn spoil(random: &mut Random, case: &mut Case, level: u8, causes: &Causes) {
     if causes.has(5) {
         case.settings.za_on = false;

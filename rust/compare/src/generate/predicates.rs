@@ -10,7 +10,7 @@ use second::inputs::random::Random;
 pub fn set(random: &mut Random, case: &mut Case, operation: &Flat) {
     let m = usize::from(operation.element_bytes.max(1));
     let register = register(case, operation);
-    match random.below(12) {
+    match random.below(16) {
         0 | 1 => register.fill(0xFF),
         2 => register.fill(0),
         3 => single(random, register, m),
@@ -20,19 +20,15 @@ pub fn set(random: &mut Random, case: &mut Case, operation: &Flat) {
             thin(random, register);
             invert(register);
         }
-        7 => {
-            random.fill(register);
-            unlooked(register, m);
-        }
+        7 => unlooked(random, register, m),
         8 => {
             register.fill(0xFF);
-            unlooked(register, m);
+            set_elements(register, m, |_| false);
         }
-        9 => {
-            register.fill(0xFF);
-            unlooked(register, m);
-            invert(register);
-        }
+        9 => starts_only(register, m),
+        10 => stepped(random, register, m, 2),
+        11 => stepped(random, register, m, 8),
+        12 | 13 => run(random, register, m),
         _ => random.fill(register),
     }
 }
@@ -70,10 +66,55 @@ fn invert(register: &mut [u8]) {
     }
 }
 
-/// Clears the bits at multiples of m, the only ones that are looked at
+/// Every element, by the bits at multiples of m and no other.
+fn starts_only(register: &mut [u8], m: usize) {
+    register.fill(0);
+    set_elements(register, m, |_| true);
+}
+
+/// Every so many elements one, from one of the first on. The bits between
+/// are all 0 or random.
+fn stepped(random: &mut Random, register: &mut [u8], m: usize, step: usize) {
+    between(random, register);
+    let first = random.below(step);
+    set_elements(register, m, |e| e % step == first);
+}
+
+/// Elements that follow each other, from the first on or to the last, or
+/// neither.
+fn run(random: &mut Random, register: &mut [u8], m: usize) {
+    between(random, register);
+    let elements = 8 * register.len() / m;
+    let length = 1 + random.below(elements);
+    let first = match random.below(3) {
+        0 => 0,
+        1 => elements - length,
+        _ => random.below(elements - length + 1),
+    };
+    set_elements(register, m, |e| (first..first + length).contains(&e));
+}
+
+/// No element, and random bits beside.
+fn unlooked(random: &mut Random, register: &mut [u8], m: usize) {
+    random.fill(register);
+    set_elements(register, m, |_| false);
+}
+
+/// What the bits are that are not looked at.
+fn between(random: &mut Random, register: &mut [u8]) {
+    if random.chance(1, 2) {
+        random.fill(register);
+    } else {
+        register.fill(0);
+    }
+}
+
+/// Sets the bits at multiples of m, the only ones that are looked at
 /// (document 01, section 3).
-fn unlooked(register: &mut [u8], m: usize) {
-    for bit in (0..8 * register.len()).step_by(m) {
+fn set_elements(register: &mut [u8], m: usize, active: impl Fn(usize) -> bool) {
+    for e in 0..8 * register.len() / m {
+        let bit = e * m;
         register[bit / 8] &= !(1 << (bit % 8));
+        register[bit / 8] |= u8::from(active(e)) << (bit % 8);
     }
 }

@@ -1,4 +1,4 @@
-//! The X registers of a case, but for a store's addresses.
+//! The X registers of a case, but for the addresses of loads and stores.
 
 use crate::case::Case;
 use second::flat::Flat;

@@ -2,23 +2,22 @@
 
 use super::causes::Causes;
 use crate::case::Case;
-use crate::rows::{encoding, Drawn, OF_DOCUMENT, STORE, TABLE};
+use crate::rows::{encoding, is_access, Drawn, TABLE};
 use second::flat::place;
 use second::inputs::random::Random;
 use second::inputs::rows::Row;
 use second::inputs::words::NEIGHBOURS;
 
-/// A row. Each has one share, but the store three, as it has the most to go
-/// wrong: its own place, and the two after the last row.
+/// A row, each with the same share; of loads and stores alone, where only
+/// they have the cause.
 pub fn row(random: &mut Random, causes: &Causes, drawn: Drawn) -> &'static Row {
-    if causes.needs_store() {
-        return &TABLE[STORE];
+    let rows = &TABLE[drawn.rows()];
+    loop {
+        let row = &rows[random.below(rows.len())];
+        if is_access(row.kind) || !causes.needs_access() {
+            return row;
+        }
     }
-    let place = match drawn {
-        Drawn::All => random.below(TABLE.len() + 2),
-        Drawn::Added => OF_DOCUMENT + random.below(TABLE.len() - OF_DOCUMENT),
-    };
-    TABLE.get(place).unwrap_or(&TABLE[STORE])
 }
 
 /// Field bits for the row. Number 31 is drawn more often for base and
@@ -54,7 +53,7 @@ fn without_encoding(random: &mut Random, word: u32) -> u32 {
             0 => random.pick(&NEIGHBOURS),
             1 => random.word(),
             2 => random.word() & 0x00FF_FFFF | 0xC000_0000,
-            3 => random.word() & 0x00FF_FFFF | 0xE000_0000,
+            3 => random.word() & 0x01FF_FFFF | 0xE000_0000,
             _ => word ^ 1 << random.below(32),
         };
         if encoding(candidate).is_none() {

@@ -1,12 +1,12 @@
 //! Situations that the table does not show but that a run must contain.
 
+mod accesses;
 mod buffers;
 mod moves;
 mod settings;
 mod slices;
-mod stores;
 
-use crate::rows::{Drawn, STORE};
+use crate::rows::Drawn;
 use crate::view::View;
 use std::fmt::{self, Display, Formatter};
 
@@ -28,9 +28,7 @@ impl Situations {
         let mut all = Situations { list: Vec::new() };
         slices::name(&mut all, drawn);
         moves::name(&mut all, drawn);
-        if drawn.has(STORE) {
-            stores::name(&mut all);
-        }
+        accesses::name(&mut all, drawn);
         buffers::name(&mut all);
         settings::name(&mut all);
         all

@@ -28,8 +28,10 @@ impl Element<'_> {
 }
 
 pub fn name(all: &mut Situations, drawn: Drawn) {
-    for (direction, way) in [(0, "horizontal"), (1, "vertical")] {
-        name_from_tile(all, direction, way);
+    if drawn.has_row(|row| row.kind == flat::MOVA_FROM_TILE) {
+        for (direction, way) in [(0, "horizontal"), (1, "vertical")] {
+            name_from_tile(all, direction, way);
+        }
     }
     let forms = [
         ("move from array, two", flat::MOVA_ARRAY, 2),
@@ -38,7 +40,7 @@ pub fn name(all: &mut Situations, drawn: Drawn) {
         ("move and zero from array, four", flat::MOVAZ_ARRAY, 4),
     ];
     for (name, kind, vectors) in forms {
-        if drawn.has_kind(kind, vectors) {
+        if drawn.has_row(|row| row.kind == kind && row.vectors == vectors) {
             name_group(all, name, kind, vectors);
         }
     }
@@ -94,18 +96,11 @@ fn name_group(all: &mut Situations, name: &str, kind: u8, vectors: u8) {
 fn elements<'a>(v: &'a View, own: &Flat) -> Vec<Element<'a>> {
     let m = usize::from(own.element_bytes);
     let length = v.vector_bytes() as usize;
-    let slice = v.number() as usize;
     let element = |e: usize| {
-        let (row, column) = if own.direction == 1 {
-            (e, slice)
-        } else {
-            (slice, e)
-        };
-        let place = (row * m + usize::from(own.tile)) * length + column * m;
         let register = usize::from(own.first_vector) * length + e * m;
         Element {
             active: v.active.binary_search(&e).is_ok(),
-            slice: &v.case.za[place..place + m],
+            slice: &v.case.za[v.place(own, e)],
             before: &v.case.z[register..register + m],
             after: &v.after.z[register..register + m],
         }

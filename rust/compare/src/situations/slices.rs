@@ -13,13 +13,14 @@ pub fn name(all: &mut Situations, drawn: Drawn) {
 
 fn name_directions(all: &mut Situations, drawn: Drawn) {
     let mut kinds = vec![
-        ("move to tile", flat::MOVA_TO_TILE, 1),
-        ("move and zero from tile", flat::MOVAZ_FROM_TILE, 1),
-        ("store of bytes", flat::STORE, 0),
-        ("move from tile", flat::MOVA_FROM_TILE, 1),
+        ("move to tile", flat::MOVA_TO_TILE),
+        ("move and zero from tile", flat::MOVAZ_FROM_TILE),
+        ("store", flat::STORE),
+        ("move from tile", flat::MOVA_FROM_TILE),
+        ("load", flat::LOAD),
     ];
-    kinds.retain(|&(_, kind, vectors)| drawn.has_kind(kind, vectors));
-    for (name, kind, _) in kinds {
+    kinds.retain(|&(_, kind)| drawn.has_row(|row| row.kind == kind));
+    for (name, kind) in kinds {
         for (direction, way) in [(0, "horizontal"), (1, "vertical")] {
             all.name(format!("done, {name}, {way}"), move |v| {
                 let own = |own: flat::Flat| own.kind == kind && own.direction == direction;
@@ -46,6 +47,15 @@ fn name_predicates(all: &mut Situations) {
     all.name("done, all elements active", move |v| {
         done(v) && v.active.len() as u64 == v.elements()
     });
+    all.name("done, all elements active and no other bit set", move |v| {
+        let bits: u32 = v.predicate().iter().map(|byte| byte.count_ones()).sum();
+        let all = v.active.len() as u64 == v.elements();
+        done(v) && all && u64::from(bits) == v.elements() && v.elements() < v.vector_bytes()
+    });
+    for step in [2, 8] {
+        let name = format!("done, one of every {step} elements active");
+        all.name(name, move |v| done(v) && stepped(v, step));
+    }
     all.name("done, one element of several active", move |v| {
         done(v) && v.active.len() == 1 && v.elements() > 1
     });
@@ -58,4 +68,14 @@ fn name_predicates(all: &mut Situations) {
     all.name("done, no element active but other bits set", move |v| {
         done(v) && v.active.is_empty() && v.predicate().iter().any(|byte| *byte != 0)
     });
+}
+
+/// Whether one of every `step` elements is active, of `step` or more, and it
+/// is always the same.
+fn stepped(v: &View, step: usize) -> bool {
+    let (elements, Some(&first)) = (v.elements() as usize, v.active.first()) else {
+        return false;
+    };
+    let wanted = (first..elements).step_by(step);
+    first < step && elements >= step && wanted.eq(v.active.iter().copied())
 }

@@ -24,6 +24,11 @@ impl<'a> Memory<'a> {
         self.place(address).is_some()
     }
 
+    /// Reads one byte, if the address is in memory.
+    pub fn read(&self, address: u64) -> Option<u8> {
+        self.place(address).map(|place| self.bytes[place])
+    }
+
     /// Writes one byte; false if the address is not in memory.
     pub fn write(&mut self, address: u64, byte: u8) -> bool {
         let Some(place) = self.place(address) else {

@@ -1,5 +1,5 @@
-//! Deliberate mistakes: those that document 01, section 8 warns of, and
-//! three that the words of request 1 invite.
+//! Deliberate mistakes: those that document 01, section 8 warns of, three
+//! that the words of request 1 invite, and six that those of request 2 do.
 //!
 //! Only the comparison runs them, to show that it would notice each.
 
@@ -31,11 +31,26 @@ pub enum Mistake {
     FourByStrideOfTwo,
     /// A move from a tile is taken as MOVA whatever bit 9 is.
     BitNineIgnored,
+    /// A load keeps the inactive elements of its slice.
+    LoadKeepsInactive,
+    /// A load keeps the elements of its slice after the last active one: all
+    /// of them, if none is active.
+    LoadKeepsTrailing,
+    /// The offset register of a load or store is not multiplied by m; the
+    /// element number is.
+    OffsetNotScaled,
+    /// Answer 7 carries the address at which the element starts.
+    FaultAtElement,
+    /// Only the first byte of each element is looked for in memory. Of the
+    /// others, those outside are not written, and read as zero.
+    FirstByteChecked,
+    /// The highest byte of an element is first in memory.
+    BigEndian,
 }
 
 impl Mistake {
     /// Every mistake, with the name that the command line has for it.
-    pub const NAMED: [(&'static str, Mistake); 10] = [
+    pub const NAMED: [(&'static str, Mistake); 16] = [
         ("TileAsBlock", Mistake::TileAsBlock),
         ("SliceModuloVectorLength", Mistake::SliceModuloVectorLength),
         ("BaseThirtyOneAsZero", Mistake::BaseThirtyOneAsZero),
@@ -49,6 +64,12 @@ impl Mistake {
         ("InactiveZeroed", Mistake::InactiveZeroed),
         ("FourByStrideOfTwo", Mistake::FourByStrideOfTwo),
         ("BitNineIgnored", Mistake::BitNineIgnored),
+        ("LoadKeepsInactive", Mistake::LoadKeepsInactive),
+        ("LoadKeepsTrailing", Mistake::LoadKeepsTrailing),
+        ("OffsetNotScaled", Mistake::OffsetNotScaled),
+        ("FaultAtElement", Mistake::FaultAtElement),
+        ("FirstByteChecked", Mistake::FirstByteChecked),
+        ("BigEndian", Mistake::BigEndian),
     ];
 
     /// The mistake of that name.

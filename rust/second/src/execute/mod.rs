@@ -1,11 +1,13 @@
 //! Execution of one word (document 01, sections 2, 3, 5 and 6, with the
-//! pages of the instructions that request 1 added).
+//! pages of the instructions that requests 1 and 2 added).
 //!
 //! Written element by element in the manner of Arm's pseudocode: a slice is
 //! read into a temporary vector and written back from one. Every check
 //! comes before the first write, so a refusal changes no buffer.
 
+mod access;
 mod checks;
+mod load;
 mod memory;
 mod mistake;
 mod moves;
@@ -67,8 +69,8 @@ pub fn execute_with(
 }
 
 /// The checks stand in the order of their numbers, since the lowest number
-/// that applies is given. The store makes the last two itself, as they need
-/// its registers.
+/// that applies is given. Loads and stores make the last two themselves, as
+/// they need their registers.
 fn run(mistake: Mistake, settings: &Settings, word: u32, buffers: Buffers) -> Result<(), Refusal> {
     let level = checks::settings(settings)?;
     checks::lengths(settings, &buffers)?;
@@ -81,7 +83,8 @@ fn run(mistake: Mistake, settings: &Settings, word: u32, buffers: Buffers) -> Re
         flat::MOVAZ_FROM_TILE => moves::tile_to_vector_zeroing(&mut state, &operation),
         flat::MOVA_ARRAY => moves::array_to_vectors(&mut state, &operation, false),
         flat::MOVAZ_ARRAY => moves::array_to_vectors(&mut state, &operation, true),
-        // Decoding gives no seventh kind.
-        _ => store::store(&mut state, &operation),
+        flat::STORE => store::store(&mut state, &operation),
+        // Decoding gives no eighth kind.
+        _ => load::load(&mut state, &operation),
     }
 }

@@ -1,5 +1,7 @@
 //! A temporary vector, Arm's `bits(VL)`, and its elements.
 
+/// The bytes of the largest element.
+pub const LARGEST_ELEMENT: usize = 16;
 /// The bytes of the longest vector.
 const LONGEST: usize = 256;
 

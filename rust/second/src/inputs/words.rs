@@ -10,7 +10,7 @@ const LEVELS: [u8; 6] = [0, 1, 2, 3, 4, 255];
 
 /// Words close to the table that are other instructions or unallocated.
 /// The comments name Arm's instruction where there is one.
-pub const NEIGHBOURS: [u32; 87] = [
+pub const NEIGHBOURS: [u32; 108] = [
     // Vectors to tile and vectors to array, the other direction.
     0xC004_0000,
     0xC004_0400,
@@ -92,22 +92,45 @@ pub const NEIGHBOURS: [u32; 87] = [
     // Bit 4 set in a move to a tile.
     0xC0C1_0010,
     0xC0FF_FFFF,
-    // Loads, stores of wider elements, loads and stores of array vectors.
-    0xE000_0000,
-    0xE040_0000,
-    0xE060_0000,
-    0xE080_0000,
-    0xE0A0_0000,
-    0xE0C0_0000,
-    0xE0E0_0000,
+    // Loads and stores of array vectors, and other loads and stores whose Q
+    // bit has a size that does not go with it.
     0xE100_0000,
     0xE120_0000,
-    0xE1C0_0000,
-    0xE1E0_0000,
-    // Bit 4 set in a store; the top bits changed.
+    0xE140_0000,
+    0xE160_0000,
+    0xE180_0000,
+    0xE1A0_0000,
+    0xE11F_FFEF,
+    0xE13F_FFEF,
+    0xE15F_FFEF,
+    0xE17F_FFEF,
+    0xE19F_FFEF,
+    0xE1BF_FFEF,
+    // Bit 4 set in a load or a store of each size.
+    0xE000_0010,
     0xE020_0010,
+    0xE040_0010,
+    0xE060_0010,
+    0xE080_0010,
+    0xE0A0_0010,
+    0xE0C0_0010,
+    0xE0E0_0010,
+    0xE1C0_0010,
+    0xE1E0_0010,
+    0xE01F_FFFF,
     0xE03F_FFFF,
+    0xE0DF_FFFF,
+    0xE1DF_FFFF,
+    0xE1FF_FFFF,
+    // The top bits of loads and stores changed.
+    0x6000_0000,
     0x6020_0000,
+    0xA1C0_0000,
+    0xE200_0000,
+    0xE220_0000,
+    0xE3C0_0000,
+    0xE5E0_0000,
+    0xF000_0000,
     // The ends of all words.
     0x0000_0000,
     0xFFFF_FFFF,

@@ -3,19 +3,32 @@
 
 use super::machine::Machine;
 
-/// A move, a store, and one word of each added instruction. All are done on
+/// A move, a store, one word of each instruction that request 1 added, and
+/// loads and stores of other sizes with the same registers. All are done on
 /// a good machine.
-const WORDS: [u32; 5] = [
+const WORDS: [u32; 9] = [
     0xC000_0000,
     0xE03F_03E0,
     0xC002_0000,
     0xC006_0800,
     0xC006_0E00,
+    0xE0FF_03E0,
+    0xE1FF_03E0,
+    0xE01F_03E0,
+    0xE09F_03E0,
+];
+/// The loads and stores among them.
+const ACCESSES: [u32; 5] = [
+    0xE03F_03E0,
+    0xE0FF_03E0,
+    0xE1FF_03E0,
+    0xE01F_03E0,
+    0xE09F_03E0,
 ];
 /// A word that decodes at no level.
 const NO_ENCODING: u32 = 0xC000_0010;
 
-/// A machine on which nothing is wrong: the store writes at address 0.
+/// A machine on which nothing is wrong: loads and stores are at address 0.
 fn good(vector_bytes: usize) -> Machine {
     let mut machine = Machine::new(vector_bytes);
     machine.memory = vec![1; 300];
@@ -100,29 +113,33 @@ fn memory_ends_at_the_last_address() {
     machine.memory.clear();
     machine.settings.memory_address = u64::MAX;
     assert_eq!(machine.clone().run(WORDS[0]), (0, 0));
-    machine.expect_refused(WORDS[1], 7, u64::MAX - 15);
+    for word in ACCESSES {
+        machine.expect_refused(word, 7, u64::MAX - 15);
+    }
 }
 
 /// The lowest number that applies: from the highest cause down, each new
 /// one takes over.
 #[test]
 fn the_lowest_number_is_given() {
-    let mut machine = good(16);
-    machine.x[31] = 1 << 40;
-    machine.expect_refused(WORDS[1], 7, 1 << 40);
-    machine.x[31] += 8;
-    machine.expect_refused(WORDS[1], 6, 0);
-    machine.settings.za_on = false;
-    machine.expect_refused(WORDS[1], 5, 0);
-    machine.settings.streaming = false;
-    machine.expect_refused(WORDS[1], 4, 0);
-    machine.expect_refused(NO_ENCODING, 3, 0);
-    machine.settings.level = 0;
-    machine.expect_refused(WORDS[1], 3, 0);
-    machine.za.pop();
-    machine.expect_refused(WORDS[1], 2, 0);
-    machine.settings.vector_bytes = 0;
-    machine.expect_refused(WORDS[1], 1, 0);
+    for word in ACCESSES {
+        let mut machine = good(16);
+        machine.x[31] = 1 << 40;
+        machine.expect_refused(word, 7, 1 << 40);
+        machine.x[31] += 8;
+        machine.expect_refused(word, 6, 0);
+        machine.settings.za_on = false;
+        machine.expect_refused(word, 5, 0);
+        machine.settings.streaming = false;
+        machine.expect_refused(word, 4, 0);
+        machine.expect_refused(NO_ENCODING, 3, 0);
+        machine.settings.level = 0;
+        machine.expect_refused(word, 3, 0);
+        machine.za.pop();
+        machine.expect_refused(word, 2, 0);
+        machine.settings.vector_bytes = 0;
+        machine.expect_refused(word, 1, 0);
+    }
 }
 
 /// Answer 7 carries the address of the lowest-numbered element outside,

@@ -12,10 +12,14 @@ use std::collections::HashSet;
 #[test]
 fn input_lists_are_unique_and_long_enough() {
     let words = words::list();
-    assert!((16_000..=20_000).contains(&words.len()), "{}", words.len());
+    assert!((29_000..=33_000).contains(&words.len()), "{}", words.len());
     assert_eq!(words.iter().collect::<HashSet<_>>().len(), words.len());
     let fields = fields::list();
-    assert!((9_000..=12_000).contains(&fields.len()), "{}", fields.len());
+    assert!(
+        (13_500..=16_000).contains(&fields.len()),
+        "{}",
+        fields.len()
+    );
     assert_eq!(fields.iter().collect::<HashSet<_>>().len(), fields.len());
 }
 

@@ -18,7 +18,12 @@ fn lines_are_answered() {
         decoded("C0064EFC 03").unwrap(),
         "C0064EFC 03 0 4 0 0 0 7 10 0 28 0 0 4 C0064EFC"
     );
+    assert_eq!(
+        decoded("E08CC7AE 01").unwrap(),
+        "E08CC7AE 01 0 7 4 1 3 2 14 1 0 29 12 0 E08CC7AE"
+    );
     assert_eq!(decoded("C0000010 03").unwrap(), "C0000010 03 3");
+    assert_eq!(decoded("E1000000 03").unwrap(), "E1000000 03 3");
     assert_eq!(decoded("C0000000 04").unwrap(), "C0000000 04 1");
     let encoded = |line: &str| lines::encode_line(line.as_bytes());
     assert_eq!(
@@ -32,6 +37,10 @@ fn lines_are_answered() {
     assert_eq!(
         encoded("030000000308000A000002").unwrap(),
         "030000000308000A000002 0 C006086A"
+    );
+    assert_eq!(
+        encoded("0510000B000E07000A1500").unwrap(),
+        "0510000B000E07000A1500 0 E1F55D4B"
     );
 }
 

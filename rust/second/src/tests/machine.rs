@@ -46,6 +46,12 @@ impl Machine {
         self.settings.vector_bytes as usize
     }
 
+    /// Other memory: `length` bytes from `address` on.
+    pub fn set_memory(&mut self, address: u64, length: usize) {
+        self.settings.memory_address = address;
+        self.memory = bytes(200, length);
+    }
+
     /// Sets the low 32 bits of an index register and fills the others, which
     /// must not matter.
     pub fn set_w(&mut self, register: usize, w: u32) {
@@ -85,6 +91,12 @@ impl Machine {
     pub fn set_za(&mut self, vector: usize, bytes: &[u8]) {
         let length = self.vector_bytes();
         self.za[vector * length..][..length].copy_from_slice(bytes);
+    }
+
+    /// Sets the bytes of a ZA vector from `first` on.
+    pub fn set_za_part(&mut self, vector: usize, first: usize, bytes: &[u8]) {
+        let start = vector * self.vector_bytes() + first;
+        self.za[start..start + bytes.len()].copy_from_slice(bytes);
     }
 
     /// Executes a word.

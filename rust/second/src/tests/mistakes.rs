@@ -1,12 +1,12 @@
-//! The mistakes of document 01, section 8, and those about the added words.
-//! Each test states what is right by section 5 and shows that the mistaken
-//! run gives something else.
+//! The mistakes of document 01, section 8, and those about the words that
+//! request 1 added. Each test states what is right by section 5 and shows
+//! that the mistaken run gives something else.
 
 use super::machine::Machine;
 use crate::execute::Mistake;
 
 /// The word leaves `wanted`, and with the mistake it does not.
-fn right_and_mistaken(machine: &Machine, word: u32, mistake: Mistake, wanted: &Machine) {
+pub fn right_and_mistaken(machine: &Machine, word: u32, mistake: Mistake, wanted: &Machine) {
     machine.clone().expect_done(word, wanted);
     let mut mistaken = machine.clone();
     let answer = mistaken.run_with(mistake, word);

@@ -2,11 +2,15 @@
 //! document 01 and of the added words, the order of the answers, and the
 //! deliberate mistakes.
 
+mod access_mistakes;
+mod accesses;
 mod added;
+mod addresses;
 mod answers;
 mod examples;
 mod inputs;
 mod lines;
 mod machine;
 mod mistakes;
+mod slices;
 mod words;

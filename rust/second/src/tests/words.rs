@@ -12,7 +12,7 @@ use crate::inputs::{examples, fields};
 use crate::refusal::Refusal;
 
 /// How many words decode at each level, as the amended table states it.
-const STATED: [(u8, u64); 4] = [(0, 0), (1, 1_376_256), (2, 1_377_024), (3, 1_398_272)];
+const STATED: [(u8, u64); 4] = [(0, 0), (1, 10_813_440), (2, 10_814_208), (3, 10_835_456)];
 
 /// Examples 1, 2, 4 to 10 and the added ones: the numbers at the least level
 /// and above it, 3 below it, 1 above the highest level.
@@ -74,6 +74,10 @@ fn neighbours_of_example_eleven_encode() {
     assert_eq!(encode(&Flat::from_bytes(four)), Ok(0xC006_0E04));
     let two = [flat::MOVA_ARRAY, 0, 0, 0, 0, 8, 0, 2, 0, 0, 2];
     assert_eq!(encode(&Flat::from_bytes(two)), Ok(0xC006_0802));
+    let byte_load = [flat::LOAD, 1, 0, 0, 15, 12, 0, 0, 0, 0, 0];
+    assert_eq!(encode(&Flat::from_bytes(byte_load)), Ok(0xE000_000F));
+    let wide_store = [flat::STORE, 16, 0, 15, 0, 12, 0, 0, 0, 0, 0];
+    assert_eq!(encode(&Flat::from_bytes(wide_store)), Ok(0xE1E0_000F));
 }
 
 /// Section 6: the numbers of the refusals; only 7 carries an address.
@@ -144,7 +148,7 @@ fn check_word(word: u32, level: u8) {
     }
 }
 
-/// Uniformly random words, and random words below the two leading bytes
+/// Uniformly random words, and random words below the three leading bytes
 /// that the rows have, where many more decode.
 #[test]
 fn random_words_round_trip() {
@@ -154,7 +158,7 @@ fn random_words_round_trip() {
         let level = random.below(4) as u8;
         check_word(word, level);
         check_word(word & 0x00FF_FFFF | 0xC000_0000, level);
-        check_word(word & 0x00FF_FFFF | 0xE000_0000, level);
+        check_word(word & 0x01FF_FFFF | 0xE000_0000, level);
         check_word(word & 0x0007_FFFF | 0xC000_0000, level);
     }
 }
@@ -177,13 +181,14 @@ fn rows_have_the_stated_number_of_words() {
     }
 }
 
-/// Decoding finds the stated numbers below the two leading bytes that the
+/// Decoding finds the stated numbers below the three leading bytes that the
 /// rows have. The command `count` tries the other words too.
 #[test]
 fn the_stated_number_of_words_decodes() {
     for (level, stated) in STATED {
         let below = |byte: u64| count_between(byte << 24, (byte + 1) << 24, level);
-        assert_eq!(below(0xC0) + below(0xE0), stated, "level {level}");
+        let found = below(0xC0) + below(0xE0) + below(0xE1);
+        assert_eq!(found, stated, "level {level}");
     }
 }
 

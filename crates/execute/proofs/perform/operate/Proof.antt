@@ -2,7 +2,7 @@
 -- Assumes nothing.
 use mathlib.Core.Path.{refl}
 use Rattle.encoding.specs.declared.operation.Operation.the-variants.{MovaToTile, MovazFromTile, MovaFromArray, MovazFromArray, MovaFromTile}
-use Rattle.execute.proofs.PerformLaws.{sized, store-ready, done-performs, store-performs}
+use Rattle.execute.proofs.PerformLaws.{sized, access-ready, done-performs, store-performs, load-performs}
 use borrow.Author.Needs.{needs}
 use Rattle.execute.proofs.perform.operate.Statement.{statement}
 use Rattle.execute.proofs.perform.operate.Tie as tie
@@ -35,13 +35,19 @@ store-requires : tie.Need-store-requires
 store-requires c κs =
     let entry = c .before .before .before .before .before .before .before .before .before .before in
     let a = entry .args in
-    store-ready (a .settings) _ _ _ _ (entry .pre .0) (rw (c .before .before .before .operation5 .given .1) at (entry .pre .1))
+    access-ready (a .settings) _ _ _ _ (entry .pre .0) (rw (c .before .before .before .operation5 .given .1) at (entry .pre .1))
 
 move-from-tile-requires : tie.Need-move-from-tile-requires
 move-from-tile-requires c κs =
     let entry = c .before .before .before .before .before .before .before .before .before .before in
     let a = entry .args in
     (sized (a .settings) _ _ _ (entry .pre .0), rw (c .before .before .before .operation6 .given .1) at (entry .pre .1))
+
+load-requires : tie.Need-load-requires
+load-requires c κs =
+    let entry = c .before .before .before .before .before .before .before .before .before .before in
+    let a = entry .args in
+    access-ready (a .settings) _ _ _ _ (entry .pre .0) (rw (c .before .before .before .operation7 .given .1) at (entry .pre .1))
 
 returns : tie.Need-returns
 returns c =
@@ -79,6 +85,12 @@ returns-6 c =
     let a = entry .args in
     done-performs (a .settings) _ _ _ (a .operation) (MovaFromTile (c .before .before .before .before .before .before .operation6 .given .0 .0)) _ (c .before .before .before .before .before .before .operation6 .given .1) refl (c .before .before .move-from-tile .ensures) refl refl
 
+returns-7 : tie.Need-returns-7
+returns-7 c =
+    let entry = c .before .before .before .before .before .before .before .before .before .before .before .before .before in
+    let a = entry .args in
+    load-performs (a .settings) _ _ _ (a .operation) (c .before .before .before .before .before .before .operation7 .given .0 .0) (c .before .before .load .result) _ (c .before .before .before .before .before .before .operation7 .given .1) (c .before .before .load .ensures)
+
 pub operate-spec : {M : Type 1} → statement M
 operate-spec =
     tie.close
@@ -96,6 +108,8 @@ operate-spec =
     (λ c. search needs)
     move-from-tile-requires
     (λ c. search needs)
+    load-requires
+    (λ c. search needs)
     (λ c. search needs)
     returns
     (λ c. search needs)
@@ -112,4 +126,7 @@ operate-spec =
     returns-5
     (λ c. search needs)
     (λ c. search needs)
-    returns-6)
+    returns-6
+    (λ c. search needs)
+    (λ c. search needs)
+    returns-7)

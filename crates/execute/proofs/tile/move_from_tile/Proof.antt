@@ -1,4 +1,4 @@
--- `execute::move_from_tile` meets its contract: the slice is the one that the index register and the offset name.
+-- `execute::tile::move_from_tile` meets its contract: the slice is the one that the index register and the offset name.
 -- Assumes nothing.
 use native.Mathlib.Omega.{arith}
 use Rattle.tiles.proofs.LengthLaws.{whole}
@@ -16,26 +16,17 @@ mul-merge-from-slice c =
     let w = whole (entry .args .operation .whole .size) (entry .args .vector-bytes) (entry .pre .0 .vector) in
     omega (arith, register-within (entry .args .vector-bytes) (entry .args .operation .whole .zd) 32 (entry .pre .1 .whole .vector), w .longest)
 
-selected-requires : tie.Need-selected-requires
-selected-requires c κs =
-    let at-count = c .before .before .before .before .before in
-    let entry = at-count .before .before .before .before .before .before in
-    let w = whole (entry .args .operation .whole .size) (entry .args .vector-bytes) (entry .pre .0 .vector) in
-    omega (arith, at-count .elements-in .ensures, w .slices, w .few, entry .pre .1 .whole .offset)
-
 mul-merge-from-slice-2 : tie.Need-mul-merge-from-slice-2
 mul-merge-from-slice-2 c =
-    let entry = c .before .before .before .before .before .before .before .before .before .before .before .before .before in
+    let entry = c .before .before .before .before .before .before .before .before .before .before in
     let w = whole (entry .args .operation .whole .size) (entry .args .vector-bytes) (entry .pre .0 .vector) in
     omega (arith, register-within (entry .args .vector-bytes / 8) (entry .args .operation .pg) 16 (omega (arith, entry .pre .1 .predicate)), w .longest)
 
 merge-from-slice-requires : tie.Need-merge-from-slice-requires
 merge-from-slice-requires c κs =
-    let at-selected = c .before in
-    let at-count = at-selected .before .before .before .before .before .before in
-    let entry = at-count .before .before .before .before .before .before in
+    let entry = c .before .before .before .before .before .before .before .before .before .before in
     let a = entry .args in (
-      placed (a .operation .whole .size) (a .vector-bytes) _ _ (entry .pre .0 .vector) (entry .pre .1 .whole .tile) (omega (arith, at-count .elements-in .ensures, at-selected .selected .ensures .1)),
+      placed (a .operation .whole .size) (a .vector-bytes) _ _ (entry .pre .0 .vector) (entry .pre .1 .whole .tile) (c .before .before .before .before .slice-number .ensures .1),
       (
         omega (arith, entry .pre .0 .za),
         omega (arith, entry .pre .0 .z, register-within (a .vector-bytes) (a .operation .whole .zd) 32 (entry .pre .1 .whole .vector)),
@@ -45,11 +36,8 @@ merge-from-slice-requires c κs =
 
 returns : tie.Need-returns
 returns c =
-    let at-merge = c .before .before in
-    let at-selected = at-merge .before .before in
-    let at-count = at-selected .before .before .before .before .before .before in
-    let a = at-count .before .before .before .before .before .before .args in
-    at-merge .merge-from-slice .ensures ∙ taken-from-tile (a .vector-bytes) _ _ _ _ _ (a .operation .whole) (at-count .elements-in .ensures) (at-selected .selected .ensures .0)
+    let a = c .before .before .before .before .before .before .before .before .before .before .before .before .before .args in
+    c .before .before .merge-from-slice .ensures ∙ taken-from-tile (a .vector-bytes) _ _ _ _ _ (a .operation .whole) (c .before .before .before .before .before .before .before .slice-number .ensures .0)
 
 pub move-from-tile-spec : {M : Type 1} → statement M
 move-from-tile-spec =
@@ -59,10 +47,6 @@ move-from-tile-spec =
     (λ c. search needs)
     mul-merge-from-slice
     (λ c. search needs)
-    (λ c. search needs)
-    (λ c. search needs)
-    (λ c. search needs)
-    selected-requires
     (λ c. search needs)
     mul-merge-from-slice-2
     merge-from-slice-requires

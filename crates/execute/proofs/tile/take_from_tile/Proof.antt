@@ -1,4 +1,4 @@
--- `execute::take_from_tile` meets its contract: the slice is the one that the index register and the offset name.
+-- `execute::tile::take_from_tile` meets its contract: the slice is the one that the index register and the offset name.
 -- Assumes nothing.
 use native.Mathlib.Omega.{arith}
 use Rattle.tiles.proofs.LengthLaws.{whole}
@@ -10,34 +10,29 @@ use borrow.Author.Needs.{needs}
 use Rattle.execute.proofs.tile.take_from_tile.Statement.{statement}
 use Rattle.execute.proofs.tile.take_from_tile.Tie as tie
 
-selected-requires : tie.Need-selected-requires
-selected-requires c κs =
-    let entry = c .before .before .before .before .before .before .before .before .before .before in
-    let w = whole (entry .args .operation .size) (entry .args .vector-bytes) (entry .pre .0 .vector) in
-    omega (arith, c .before .before .before .before .before .elements-in .ensures, w .slices, w .few, entry .pre .1 .offset)
-
 mul-take-slice : tie.Need-mul-take-slice
 mul-take-slice c =
-    let entry = c .before .before .before .before .before .before .before .before .before .before .before .before in
+    let entry = c .before .before .before .before .before .before .before .before .before in
     let w = whole (entry .args .operation .size) (entry .args .vector-bytes) (entry .pre .0 .vector) in
     omega (arith, register-within (entry .args .vector-bytes) (entry .args .operation .zd) 32 (entry .pre .1 .vector), w .longest)
 
 take-slice-requires : tie.Need-take-slice-requires
 take-slice-requires c κs =
-    let entry = c .before .before .before .before .before .before .before .before .before .before .before .before in (
-      placed (entry .args .operation .size) (entry .args .vector-bytes) _ _ (entry .pre .0 .vector) (entry .pre .1 .tile) (omega (arith, c .before .before .before .before .before .before .before .elements-in .ensures, c .before .selected .ensures .1)),
+    let entry = c .before .before .before .before .before .before .before .before .before in
+    let a = entry .args in (
+      placed (a .operation .size) (a .vector-bytes) _ _ (entry .pre .0 .vector) (entry .pre .1 .tile) (c .before .before .before .before .slice-number .ensures .1),
       (
         omega (arith, entry .pre .0 .za),
-        omega (arith, entry .pre .0 .z, register-within (entry .args .vector-bytes) (entry .args .operation .zd) 32 (entry .pre .1 .vector)),
+        omega (arith, entry .pre .0 .z, register-within (a .vector-bytes) (a .operation .zd) 32 (entry .pre .1 .vector)),
       ),
     )
 
 returns : tie.Need-returns
 returns c =
-    let a = c .before .before .before .before .before .before .before .before .before .before .before .before .before .before .before .before .before .args in (
-      c .before .before .before .before .take-slice .ensures .0 ∙ taken-from-tile (a .vector-bytes) _ _ _ _ _ (a .operation) (c .before .before .before .before .before .before .before .before .before .before .before .before .elements-in .ensures) (c .before .before .before .before .before .before .selected .ensures .0),
-      c .before .before .before .before .take-slice .ensures .1 ∙ zeroed-in-tile (a .vector-bytes) _ _ [] _ (a .operation) (c .before .before .before .before .before .before .before .before .before .before .before .before .elements-in .ensures) (c .before .before .before .before .before .before .selected .ensures .0),
-    )
+    let at-take = c .before .before .before .before in
+    let slice = at-take .before .before .before .before .before .slice-number .ensures .0 in
+    let a = c .before .before .before .before .before .before .before .before .before .before .before .before .before .before .args in
+    (at-take .take-slice .ensures .0 ∙ taken-from-tile (a .vector-bytes) _ _ _ _ _ (a .operation) slice, at-take .take-slice .ensures .1 ∙ zeroed-in-tile (a .vector-bytes) _ _ [] _ (a .operation) slice)
 
 pub take-from-tile-spec : {M : Type 1} → statement M
 take-from-tile-spec =
@@ -45,10 +40,6 @@ take-from-tile-spec =
     (tie.spec
     (λ c κs. search needs)
     (λ c. search needs)
-    (λ c. search needs)
-    (λ c. search needs)
-    (λ c. search needs)
-    selected-requires
     (λ c. search needs)
     mul-take-slice
     take-slice-requires

@@ -7,7 +7,8 @@ use second::execute::{execute, Settings};
 use second::inputs::random::Random;
 use std::hint::black_box;
 
-/// Where memory stands.
+/// The address of element 0 of a load or store. As many bytes of memory as a
+/// vector has are before it.
 const ADDRESS: u64 = 0x10000;
 /// The value of every index register: a slice of tiles with four rows or
 /// more, and not the first.
@@ -43,7 +44,12 @@ impl Machine {
             level: 3,
             streaming: true,
             za_on: true,
-            memory_address: ADDRESS,
+            memory_address: ADDRESS - vector_bytes as u64,
+        };
+        let from_element_0 = if task.ends_inside {
+            vector_bytes / 2
+        } else {
+            2 * vector_bytes
         };
         Machine {
             vector_bytes,
@@ -55,7 +61,7 @@ impl Machine {
             z: bytes(32 * vector_bytes),
             p: predicates(vector_bytes, task),
             za: bytes(vector_bytes * vector_bytes),
-            memory: bytes(vector_bytes),
+            memory: bytes(vector_bytes + from_element_0),
         }
     }
 
@@ -135,22 +141,38 @@ impl Machine {
         }
     }
 
+    pub fn strided_load(&mut self) {
+        let column = self.column();
+        let memory = &self.memory[self.vector_bytes..];
+        match self.element_bytes {
+            1 => plain::load::<1>(&column, &mut self.za, memory, &self.p),
+            4 => plain::load::<4>(&column, &mut self.za, memory, &self.p),
+            _ => plain::load::<16>(&column, &mut self.za, memory, &self.p),
+        }
+    }
+
     pub fn strided_store(&mut self) {
         let column = self.column();
-        plain::store(&column, &self.za, &mut self.memory, &self.p);
+        let memory = &mut self.memory[self.vector_bytes..];
+        match self.element_bytes {
+            1 => plain::store::<1>(&column, &self.za, memory, &self.p),
+            4 => plain::store::<4>(&column, &self.za, memory, &self.p),
+            _ => plain::store::<16>(&column, &self.za, memory, &self.p),
+        }
     }
 }
 
 /// Predicate 0 governs; the others are left empty.
 fn predicates(vector_bytes: usize, task: &Task) -> Vec<u8> {
-    let step = match task.active {
-        Active::All => 1,
-        Active::Alternating => 2,
-        Active::Sparse => 8,
-        Active::None => return vec![0; 2 * vector_bytes],
+    let (bits, step) = match task.active {
+        Active::All => (vector_bytes, 1),
+        Active::Alternating => (vector_bytes, 2),
+        Active::Sparse => (vector_bytes, 8),
+        Active::None => (0, 1),
+        Active::FirstHalf => (vector_bytes / 2, 1),
     };
     let mut p = vec![0; 2 * vector_bytes];
-    for bit in (0..vector_bytes).step_by(step * task.element_bytes) {
+    for bit in (0..bits).step_by(step * task.element_bytes) {
         p[bit / 8] |= 1 << (bit % 8);
     }
     p
@@ -172,6 +194,7 @@ mod tests {
                     Strided::ToTile => own.strided_to_tile(),
                     Strided::FromTile => own.strided_from_tile(),
                     Strided::ZeroingFromTile => own.strided_zeroing_from_tile(),
+                    Strided::Load => own.strided_load(),
                     Strided::Store => own.strided_store(),
                 }
                 let mut unit = Machine::new(vector_bytes, &task);

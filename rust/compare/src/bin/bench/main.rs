@@ -1,6 +1,7 @@
 //! Times the archive's function beside the second program, a plain copy of
 //! as many bytes (and clearing as many, for what zeroes), and a plain strided
-//! loop. The goal, where there is one, is for the last ratio of the line.
+//! loop. The goal, where there is one, is for the last ratio of the line, and
+//! a goal that is missed is told.
 
 #![forbid(unsafe_code)]
 
@@ -19,6 +20,7 @@ const VECTOR_LENGTHS: [usize; 3] = [16, 64, 256];
 fn main() -> ExitCode {
     println!("nanoseconds per call, least of {} batches", timing::BATCHES);
     print_heading();
+    let mut goals = Goals::default();
     for vector_bytes in VECTOR_LENGTHS {
         for task in task::list() {
             let mut machine = Machine::new(vector_bytes, &task);
@@ -27,10 +29,27 @@ fn main() -> ExitCode {
                 eprintln!("bench: {}: the archive answers {answer}", task.name);
                 return ExitCode::FAILURE;
             }
-            print_line(&task, vector_bytes, &time(&task, &mut machine));
+            let contest = time(&task, &mut machine);
+            goals.add(print_line(&task, vector_bytes, &contest));
         }
     }
+    println!("{} goals met, {} missed", goals.met, goals.missed);
     ExitCode::SUCCESS
+}
+
+/// How many goals were met and how many missed.
+#[derive(Default)]
+struct Goals {
+    met: usize,
+    missed: usize,
+}
+
+impl Goals {
+    /// Counts a line's verdict, if there is one.
+    fn add(&mut self, met: Option<bool>) {
+        self.met += usize::from(met == Some(true));
+        self.missed += usize::from(met == Some(false));
+    }
 }
 
 /// Times the contestants in turns, so that a slow moment of the computer
@@ -53,6 +72,7 @@ fn time(task: &Task, machine: &mut Machine) -> Contest {
                     .strided
                     .batch(|| machine.strided_zeroing_from_tile());
             }
+            Strided::Load => contest.strided.batch(|| machine.strided_load()),
             Strided::Store => contest.strided.batch(|| machine.strided_store()),
         }
     }
@@ -66,32 +86,38 @@ fn print_heading() {
     );
 }
 
-fn print_line(task: &Task, vector_bytes: usize, contest: &Contest) {
+/// Prints the times and ratios. Gives whether the goal is met, if the task
+/// has one for this vector length.
+fn print_line(task: &Task, vector_bytes: usize, contest: &Contest) -> Option<bool> {
     let archive = contest.archive.least();
     let copy = contest.copy.least();
     let strided = contest.strided.least();
+    let [to_copy, to_strided] = [copy, strided].map(|other| ratio(archive, other));
+    let goal = task.goal.filter(|goal| vector_bytes >= goal.from);
+    let goal = goal.map(|goal| goal.times);
+    let met = goal.zip(to_strided.or(to_copy));
+    let met = met.map(|(goal, ratio)| ratio <= goal);
     println!(
-        "{:<45} {vector_bytes:>6} {:>9} {:>9} {:>9} {:>9} {:>8} {:>8} {:>5}",
+        "{:<45} {vector_bytes:>6} {:>9} {:>9} {:>9} {:>9} {:>8} {:>8} {:>5}{}",
         task.name,
-        number(archive),
-        number(contest.second.least()),
-        number(copy),
-        number(strided),
-        ratio(archive, copy),
-        ratio(archive, strided),
-        number(task.goal)
+        number(archive, 1),
+        number(contest.second.least(), 1),
+        number(copy, 1),
+        number(strided, 1),
+        number(to_copy, 2),
+        number(to_strided, 2),
+        number(goal, 1),
+        if met == Some(false) { "  missed" } else { "" }
     );
+    met
 }
 
-/// The archive's time over another's, or a dash where there is none.
-fn ratio(archive: Option<f64>, other: Option<f64>) -> String {
-    match (archive, other) {
-        (Some(archive), Some(other)) => format!("{:.2}", archive / other),
-        _ => "-".to_string(),
-    }
+/// The archive's time over another's, if there is one.
+fn ratio(archive: Option<f64>, other: Option<f64>) -> Option<f64> {
+    archive.zip(other).map(|(archive, other)| archive / other)
 }
 
-/// A time, or a dash where there is none.
-fn number(value: Option<f64>) -> String {
-    value.map_or("-".to_string(), |value| format!("{value:.1}"))
+/// A number to so many places, or a dash where there is none.
+fn number(value: Option<f64>, places: usize) -> String {
+    value.map_or("-".to_string(), |value| format!("{value:.places$}"))
 }

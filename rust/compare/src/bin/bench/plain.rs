@@ -50,11 +50,25 @@ pub fn zeroing_from_tile<const M: usize>(column: &Column, za: &mut [u8], z: &mut
     }
 }
 
-/// As ST1B, with the same predicate test.
-pub fn store(column: &Column, za: &[u8], memory: &mut [u8], p: &[u8]) {
-    for (e, byte) in memory.iter_mut().enumerate() {
-        if active(p, e) {
-            *byte = za[column.place::<1>(e)];
+/// As LD1, with the same predicate test: inactive elements become zero.
+pub fn load<const M: usize>(column: &Column, za: &mut [u8], memory: &[u8], p: &[u8]) {
+    for e in 0..column.vector_bytes / M {
+        let place = column.place::<M>(e);
+        let element = &mut za[place..place + M];
+        if active(p, e * M) {
+            element.copy_from_slice(&memory[e * M..e * M + M]);
+        } else {
+            element.fill(0);
+        }
+    }
+}
+
+/// As ST1, with the same predicate test.
+pub fn store<const M: usize>(column: &Column, za: &[u8], memory: &mut [u8], p: &[u8]) {
+    for e in 0..column.vector_bytes / M {
+        if active(p, e * M) {
+            let place = column.place::<M>(e);
+            memory[e * M..e * M + M].copy_from_slice(&za[place..place + M]);
         }
     }
 }

@@ -1,16 +1,18 @@
 //! The operations that are timed.
 
-/// Which elements are active: each, each second, each eighth, or none. They
-/// are counted by element, so that their part is the same for every size.
+/// Which elements are active: each, each second, each eighth, none, or those
+/// of the first half. They are counted by element, so that their part is the
+/// same for every size.
 #[derive(Clone, Copy, PartialEq, Eq)]
 pub enum Active {
     All,
     Alternating,
     Sparse,
     None,
+    FirstHalf,
 }
 
-/// Each of them, with its name.
+/// Those under which every predicated operation is timed, with their names.
 const ACTIVE: [(Active, &str); 4] = [
     (Active::All, "all"),
     (Active::Alternating, "alternating"),
@@ -25,7 +27,17 @@ pub enum Strided {
     ToTile,
     FromTile,
     ZeroingFromTile,
+    Load,
     Store,
+}
+
+/// At most so many times as long as the strided loop is an operation to take
+/// or, where there is none, as the copy; with vectors of so many bytes or
+/// more.
+#[derive(Clone, Copy)]
+pub struct Goal {
+    pub times: f64,
+    pub from: usize,
 }
 
 /// One operation and what it is set beside.
@@ -36,43 +48,66 @@ pub struct Task {
     pub answer: u32,
     pub element_bytes: usize,
     pub active: Active,
+    /// Whether memory ends in the middle of the slice, and not far behind it.
+    pub ends_inside: bool,
     /// How many vectors the plain copy moves, and whether it then clears where they were.
     pub copied: usize,
     pub zeroes: bool,
     pub strided: Strided,
-    /// At most so many times as long as the strided loop is it to take or,
-    /// where there is none, as the copy.
-    pub goal: Option<f64>,
+    pub goal: Option<Goal>,
 }
 
-/// A move between vector register 1 and a tile: its name, the words of its
-/// three sizes on the byte tile or tile 1, and the loop beside it.
-struct TileMove {
+/// An operation on a slice of the byte tile or of tile 1: its name, the words
+/// of its three sizes, the loop beside it, and its goal by element size,
+/// active elements and whether it is vertical.
+struct Sliced {
     name: &'static str,
     words: [(usize, u32); 3],
     zeroes: bool,
     strided: Strided,
+    goal: fn(usize, Active, bool) -> Option<Goal>,
 }
 
-const TO_TILE: TileMove = TileMove {
+/// The moves between vector register 1 and a tile.
+const TO_TILE: Sliced = Sliced {
     name: "move to tile",
     words: [(1, 0xC000_0020), (4, 0xC080_0024), (16, 0xC0C1_0021)],
     zeroes: false,
     strided: Strided::ToTile,
+    goal: goal_of_move,
 };
 
-const FROM_TILE: TileMove = TileMove {
+const FROM_TILE: Sliced = Sliced {
     name: "move from tile",
     words: [(1, 0xC002_0001), (4, 0xC082_0081), (16, 0xC0C3_0021)],
     zeroes: false,
     strided: Strided::FromTile,
+    goal: goal_of_move,
 };
 
-const ZEROING_FROM_TILE: TileMove = TileMove {
+const ZEROING_FROM_TILE: Sliced = Sliced {
     name: "move and zero from tile",
     words: [(1, 0xC002_0201), (4, 0xC082_0281), (16, 0xC0C3_0221)],
     zeroes: true,
     strided: Strided::ZeroingFromTile,
+    goal: goal_of_move,
+};
+
+/// The load and the store, with base register 1 and offset register 2.
+const LOAD: Sliced = Sliced {
+    name: "load",
+    words: [(1, 0xE002_0020), (4, 0xE082_0024), (16, 0xE1C2_0021)],
+    zeroes: false,
+    strided: Strided::Load,
+    goal: goal_of_access,
+};
+
+const STORE: Sliced = Sliced {
+    name: "store",
+    words: [(1, 0xE022_0020), (4, 0xE0A2_0024), (16, 0xE1E2_0021)],
+    zeroes: false,
+    strided: Strided::Store,
+    goal: goal_of_access,
 };
 
 /// The moves from the array: name, word, number of registers, and whether
@@ -87,20 +122,19 @@ const ARRAY: [(&str, u32, usize, bool); 4] = [
 /// All operations, for any vector length.
 pub fn list() -> Vec<Task> {
     let mut tasks = Vec::new();
-    for tile_move in [TO_TILE, FROM_TILE] {
+    for sliced in [TO_TILE, FROM_TILE, LOAD, STORE] {
         for (active, elements) in ACTIVE {
             let named = |task: Task| Task {
                 name: format!("{}, {elements}", task.name),
-                active,
                 ..task
             };
-            tasks.extend(tile_move.tasks().into_iter().map(named));
+            tasks.extend(sliced.tasks(active).into_iter().map(named));
         }
     }
-    tasks.extend(ZEROING_FROM_TILE.tasks());
+    tasks.extend([LOAD, STORE].map(|sliced| sliced.ending_inside()));
+    tasks.extend(ZEROING_FROM_TILE.tasks(Active::All));
     let array = |(name, word, count, zeroes)| beside_copy(name, word, count, zeroes);
     tasks.extend(ARRAY.map(array));
-    tasks.extend([false, true].map(store));
     tasks.push(Task {
         answer: 3,
         ..beside_copy("no encoding", 0xC000_0010, 0, false)
@@ -108,30 +142,59 @@ pub fn list() -> Vec<Task> {
     tasks
 }
 
-impl TileMove {
-    /// Each size in both directions, every element active.
-    fn tasks(&self) -> Vec<Task> {
-        let directions = |&word: &(usize, u32)| [false, true].map(|v| self.task(word, v));
+impl Sliced {
+    /// Each size in both directions.
+    fn tasks(&self, active: Active) -> Vec<Task> {
+        let directions = |&word: &(usize, u32)| [false, true].map(|v| self.task(word, v, active));
         self.words.iter().flat_map(directions).collect()
     }
 
-    fn task(&self, (element_bytes, word): (usize, u32), vertical: bool) -> Task {
+    fn task(&self, (element_bytes, word): (usize, u32), vertical: bool, active: Active) -> Task {
+        let way = if vertical { "vertical" } else { "horizontal" };
+        let strided = if vertical {
+            self.strided
+        } else {
+            Strided::None
+        };
         Task {
-            name: format!("{}, m={element_bytes}, {}", self.name, way(vertical)),
+            name: format!("{}, m={element_bytes}, {way}", self.name),
             word: word | u32::from(vertical) << 15,
             answer: 0,
             element_bytes,
-            active: Active::All,
+            active,
+            ends_inside: false,
             copied: 1,
             zeroes: self.zeroes,
-            strided: if vertical {
-                self.strided
-            } else {
-                Strided::None
-            },
-            goal: Some(if vertical { 1.5 } else { 8.0 }),
+            strided,
+            goal: (self.goal)(element_bytes, active, vertical),
         }
     }
+
+    /// A row of 4-byte elements with memory that ends in its middle, behind
+    /// the last active element.
+    fn ending_inside(&self) -> Task {
+        let task = self.task(self.words[1], false, Active::FirstHalf);
+        Task {
+            name: format!("{}, memory ends inside", task.name),
+            ends_inside: true,
+            goal: None,
+            ..task
+        }
+    }
+}
+
+/// Eight copies for a row, one and a half strided loops for a column.
+fn goal_of_move(_: usize, _: Active, vertical: bool) -> Option<Goal> {
+    let times = if vertical { 1.5 } else { 8.0 };
+    Some(Goal { times, from: 16 })
+}
+
+/// For a row of the longest vectors, of small elements: six copies if all
+/// elements are active, and twelve if not.
+fn goal_of_access(element_bytes: usize, active: Active, vertical: bool) -> Option<Goal> {
+    let times = if active == Active::All { 6.0 } else { 12.0 };
+    let has_goal = !vertical && element_bytes <= 4;
+    has_goal.then_some(Goal { times, from: 256 })
 }
 
 /// An operation beside which there is only a copy, or nothing.
@@ -142,31 +205,10 @@ fn beside_copy(name: &str, word: u32, copied: usize, zeroes: bool) -> Task {
         answer: 0,
         element_bytes: 1,
         active: Active::All,
+        ends_inside: false,
         copied,
         zeroes,
         strided: Strided::None,
         goal: None,
-    }
-}
-
-/// ST1B with base X1 and offset X2.
-fn store(vertical: bool) -> Task {
-    let name = format!("store of bytes, {}, all", way(vertical));
-    let word = 0xE022_0020 | u32::from(vertical) << 15;
-    Task {
-        strided: if vertical {
-            Strided::Store
-        } else {
-            Strided::None
-        },
-        ..beside_copy(&name, word, 1, false)
-    }
-}
-
-fn way(vertical: bool) -> &'static str {
-    if vertical {
-        "vertical"
-    } else {
-        "horizontal"
     }
 }

@@ -1,0 +1,82 @@
+-- `access::from_memory::read_active` meets its contract: after k turns the active ones of the first k bytes are read.
+-- Assumes nothing.
+use borrow.Author.Needs.{needs}
+use mathlib.Core.Path.{refl, sym, ap, _∙_}
+use mathlib.Core.Logic.{⊎-elim}
+use Prim.Native.Nat.{ℕ, _+_, _-_, _%_, _^_, _≤_, _<_}
+use native.Mathlib.Omega.{arith}
+use lib.ListN.{length, getD}
+use Rattle.tiles.specs.Scatter.{from}
+use Rattle.tiles.specs.Predicate.{active}
+use Rattle.tiles.proofs.ScatterLaws.{scatter-none, scatter-end}
+use Rattle.moves.proofs.BlockLaws.{Written}
+use Rattle.access.proofs.AccessLaws.{in-memory, written-active, written-inactive}
+use Rattle.access.proofs.from_memory.read_active.Statement.{statement}
+use Rattle.access.proofs.from_memory.read_active.Tie as tie
+
+abbrev Inv-loop : tie.InvT-loop
+Inv-loop vector₀ memory memory-address start p pbase m n k₀ vector k =
+    (k ≤ n) × Written (from 0) (active p pbase m) (λ (k : ℕ). getD memory ((start + k) % 2 ^ 64 - memory-address) 0) vector₀ k vector
+
+abbrev μ-loop : tie.MeasureT-loop
+μ-loop vector₀ memory memory-address start p pbase m n k₀ vector k = n - k
+
+-- an active byte's address is in memory
+inside : (c : tie.After-wrapping-add-u64 Inv-loop μ-loop) → let a = c .before .before .before .before .before .before .before .before .args in (a .memory-address ≤ c .wrapping-add-u64 .result) × (c .wrapping-add-u64 .result < a .memory-address + length (a .memory .now))
+inside c =
+    let at-then = c .before in
+    let at-test = at-then .before .before in
+    let entry = at-test .before .before .before .before .before in
+    rw (c .wrapping-add-u64 .ensures)
+    (in-memory _ _ _ (entry .pre .1 _ (at-test .loop-test .taken) (sym (at-then .before .is-active .ensures) ∙ at-then .if1 .taken)))
+
+loop-holds : tie.Need-loop-holds Inv-loop μ-loop
+loop-holds c = (omega arith, (refl, scatter-none _ _ _))
+
+is-active-requires : tie.Need-is-active-requires Inv-loop μ-loop
+is-active-requires c κs = omega arith
+
+sub-at : tie.Need-sub-at Inv-loop μ-loop
+sub-at c = omega (arith, inside c)
+
+shared-slice-read-vector : tie.Need-shared-slice-read-vector Inv-loop μ-loop
+shared-slice-read-vector c = omega (arith, inside (c .before))
+
+slice-write-vector : tie.Need-slice-write-vector Inv-loop μ-loop
+slice-write-vector c = omega arith
+
+loop-again : tie.Need-loop-again Inv-loop μ-loop
+loop-again c =
+    let l = c .before .before .before .loop in
+    let a = c .before .before .before .before .before .before .before .args in
+    let on = c .before .is-active .ensures in
+    ⊎-elim
+    (λ w. (omega arith, written-active _ _ _ _ (l .k) (l .k) _ (l .inv .1 .1) (sym on ∙ w .0 .taken) (omega arith) (ap (λ (x : ℕ). getD (a .memory .now) (x - a .memory-address) 0) (w .1 .ensures)) (w .3)))
+    (λ w. (omega arith, written-inactive _ _ _ _ (l .k) (l .inv .1 .1) (sym on ∙ w .0 .left) (w .1)))
+    (c .if1 .came)
+
+same-length : tie.Need-same-length Inv-loop μ-loop
+same-length c = omega arith
+
+returns : tie.Need-returns Inv-loop μ-loop
+returns c =
+    let l = c .before .loop in
+    scatter-end _ _ _ _ (l .inv .1 .1) (l .inv .0) (c .loop-test .left)
+
+pub read-active-spec : {M : Type 1} → statement M
+read-active-spec =
+    tie.close
+    (tie.spec
+    Inv-loop
+    μ-loop
+    loop-holds
+    is-active-requires
+    (λ c κs. search needs)
+    sub-at
+    shared-slice-read-vector
+    slice-write-vector
+    (λ c. search needs)
+    (λ c. search needs)
+    loop-again
+    same-length
+    returns)

@@ -1,0 +1,215 @@
+//! Situations of loads and stores: where they go, what they are refused for,
+//! and the two meanings of number 31.
+
+use super::Situations;
+use crate::rows::Drawn;
+use crate::view::View;
+use second::flat::{self, Flat};
+
+/// One past the last address.
+const ADDRESSES: u128 = 1 << 64;
+
+/// A test of a case that has the load or store in question.
+type Holds = fn(&View) -> bool;
+
+/// With an active element, or where it is said with none.
+const DONE: [(&str, Holds); 10] = [
+    ("all elements active", |v| {
+        v.active.len() as u64 == v.elements()
+    }),
+    ("no element active", |v| v.active.is_empty()),
+    ("an inactive element outside memory", |v| {
+        !v.active.is_empty() && (0..v.elements() as usize).any(|e| !v.in_memory(e))
+    }),
+    ("to the first byte of memory", |v| {
+        v.first_address() == Some(v.memory_start())
+    }),
+    ("to the last byte of memory", |v| {
+        v.last_address().map(|last| last + 1) == Some(v.memory_end())
+    }),
+    ("memory from address 0", |v| {
+        !v.active.is_empty() && v.memory_start() == 0
+    }),
+    ("memory up to 2^64", |v| {
+        !v.active.is_empty() && v.memory_end() == ADDRESSES
+    }),
+    ("addresses wrap at 2^64", |v| v.wraps()),
+    ("an address that is not aligned", |v| {
+        !v.active.is_empty() && v.start() % 16 != 0
+    }),
+    ("memory of length 0", |v| v.case.memory.is_empty()),
+];
+
+const FAULTS: [(&str, Holds); 5] = [
+    ("at an element's first byte", |v| {
+        v.fault().is_some_and(|(_, byte)| byte == 0)
+    }),
+    ("after an active element in memory", |v| {
+        v.fault().map(|(e, _)| e) != v.active.first().copied()
+    }),
+    ("a later active element in memory", |v| {
+        v.active.last().is_some_and(|&e| v.in_memory(e))
+    }),
+    ("at an element that wrapped at 2^64", |v| {
+        u128::from(v.address) < v.start()
+    }),
+    ("memory of length 0", |v| v.case.memory.is_empty()),
+];
+
+/// What an element of one byte cannot have.
+const FAULTS_OF_WIDE: [(&str, Holds); 4] = [
+    ("at a later byte of an element", |v| {
+        v.fault().is_some_and(|(_, byte)| byte > 0)
+    }),
+    ("at an element over 2^64, memory from address 0", |v| {
+        v.memory_start() == 0 && over_the_last_address(v)
+    }),
+    ("at an element over 2^64, memory up to 2^64", |v| {
+        v.memory_end() == ADDRESSES && v.address == 0 && over_the_last_address(v)
+    }),
+    ("memory shorter than an element", |v| {
+        let m = v.access().map_or(0, |own| usize::from(own.element_bytes));
+        (1..m).contains(&v.case.memory.len())
+    }),
+];
+
+pub fn name(all: &mut Situations, drawn: Drawn) {
+    for (name, kind) in [("store", flat::STORE), ("load", flat::LOAD)] {
+        if !drawn.has_row(|row| row.kind == kind) {
+            continue;
+        }
+        for m in [1, 2, 4, 8, 16] {
+            if drawn.has_row(|row| row.kind == kind && row.element_bytes == m) {
+                name_sized(all, &format!("{name}, m={m}"), kind, m);
+            }
+        }
+        name_stack_pointer(all, name, kind);
+        name_registers(all, name, kind);
+    }
+    if drawn.has_row(|row| row.kind == flat::LOAD) {
+        name_zeroed(all);
+    }
+}
+
+/// A load or store of one size.
+fn name_sized(all: &mut Situations, name: &str, kind: u8, m: u8) {
+    let own = move |v: &View, answer: u32| {
+        let sized = |own: Flat| own.kind == kind && own.element_bytes == m;
+        v.answer == answer && v.access().is_some_and(sized)
+    };
+    for (what, holds) in DONE {
+        all.name(format!("{name}, done, {what}"), move |v| {
+            own(v, 0) && holds(v)
+        });
+    }
+    all.name(format!("{name}, 6"), move |v| own(v, 6));
+    for (what, holds) in FAULTS {
+        all.name(format!("{name}, fault, {what}"), move |v| {
+            own(v, 7) && holds(v)
+        });
+    }
+    if m > 1 {
+        for (what, holds) in FAULTS_OF_WIDE {
+            all.name(format!("{name}, fault, {what}"), move |v| {
+                own(v, 7) && holds(v)
+            });
+        }
+        all.name(format!("{name}, done, offset times m wraps"), move |v| {
+            own(v, 0) && !v.active.is_empty() && v.product() >= ADDRESSES
+        });
+    }
+}
+
+/// Whether the element of the fault begins before 2^64 and ends after 0.
+fn over_the_last_address(v: &View) -> bool {
+    let fault = v.fault();
+    fault.is_some_and(|(e, _)| {
+        let (first, last) = v.ends(e);
+        last < first
+    })
+}
+
+fn name_stack_pointer(all: &mut Situations, name: &str, kind: u8) {
+    let kinds = [
+        ("aligned, an active element, done", true, true, 0),
+        ("aligned, an active element, fault", true, true, 7),
+        ("aligned, no active element, done", true, false, 0),
+        ("not aligned, an active element, 6", false, true, 6),
+        ("not aligned, no active element, done", false, false, 0),
+    ];
+    for (what, aligned, active, answer) in kinds {
+        all.name(format!("{name}, stack pointer {what}"), move |v| {
+            let own = |own: Flat| own.kind == kind && own.base == 31;
+            let active = v.active.is_empty() != active;
+            v.access().is_some_and(own) && v.aligned() == aligned && active && v.answer == answer
+        });
+    }
+}
+
+fn name_registers(all: &mut Situations, name: &str, kind: u8) {
+    let registers: [(&str, fn(Flat) -> bool); 6] = [
+        ("base 31 and offset 31", |own| {
+            own.base == 31 && own.offset_register == 31
+        }),
+        ("base 31, another offset", |own| {
+            own.base == 31 && own.offset_register != 31
+        }),
+        ("offset 31, another base", |own| {
+            own.base != 31 && own.offset_register == 31
+        }),
+        ("base and offset the same, not 31", |own| {
+            own.base == own.offset_register && own.base != 31
+        }),
+        ("base is the index register", |own| own.base == own.index),
+        ("offset is the index register", |own| {
+            own.offset_register == own.index
+        }),
+    ];
+    for (what, holds) in registers {
+        all.name(format!("{name}, done, {what}"), move |v| {
+            let own = |own: Flat| own.kind == kind && holds(own);
+            v.done() && !v.active.is_empty() && v.access().is_some_and(own)
+        });
+    }
+}
+
+/// Inactive elements of a load that were not zero and are after it: before,
+/// between and after the active ones, and all.
+fn name_zeroed(all: &mut Situations) {
+    let places: [(&str, fn(&View, usize) -> bool); 4] = [
+        ("before the active ones", |v, e| {
+            v.active.first().is_some_and(|first| e < *first)
+        }),
+        ("between the active ones", |v, e| {
+            v.active.iter().any(|own| *own < e) && v.active.iter().any(|own| e < *own)
+        }),
+        ("after the active ones", |v, e| {
+            v.active.last().is_some_and(|last| *last < e)
+        }),
+        ("with none active", |v, _| v.active.is_empty()),
+    ];
+    for (direction, way) in [(0, "horizontal"), (1, "vertical")] {
+        for (what, place) in places {
+            for m in [1, 2, 4, 8, 16] {
+                let name = format!("load, m={m}, done, {way}, an element zeroed {what}");
+                all.name(name, move |v| {
+                    let own = |own: &Flat| own.kind == flat::LOAD && own.element_bytes == m;
+                    let own = v.operation.filter(|_| v.done()).filter(own);
+                    own.filter(|own| own.direction == direction)
+                        .is_some_and(|own| zeroed(v, &own).any(|e| place(v, e)))
+                });
+            }
+        }
+    }
+}
+
+/// The elements of the slice that were not zero before the call and are
+/// after it.
+fn zeroed<'a>(v: &'a View, own: &Flat) -> impl Iterator<Item = usize> + 'a {
+    let own = *own;
+    let zero = |bytes: &[u8]| bytes.iter().all(|byte| *byte == 0);
+    (0..v.elements() as usize).filter(move |&e| {
+        let place = v.place(&own, e);
+        !zero(&v.case.za[place.clone()]) && zero(&v.after.za[place])
+    })
+}

@@ -1,0 +1,80 @@
+//! Worked examples: cases with what must come of them written out, to which
+//! both programs are held.
+
+mod accesses;
+
+use crate::case::{Case, Outcome};
+use second::execute::Mistake;
+
+/// A case and what must come of it. X, Z and P must stay.
+pub struct Worked {
+    pub name: String,
+    pub case: Case,
+    pub answer: u32,
+    pub address: u64,
+    pub za: Vec<u8>,
+    pub memory: Vec<u8>,
+}
+
+/// All worked examples.
+pub fn list() -> Vec<Worked> {
+    accesses::list()
+}
+
+impl Worked {
+    /// Runs the case through both programs. An error tells of the first that
+    /// does something else than is written out.
+    pub fn check(&self) -> Result<(), String> {
+        let mut second = Outcome::default();
+        second.run_second(&self.case, Mistake::None);
+        self.hold("second", &second)?;
+        let mut archive = Outcome::default();
+        archive.run_archive(&self.case);
+        self.hold("archive", &archive)
+    }
+
+    /// Holds one program's outcome to what is written out.
+    pub fn hold(&self, program: &str, outcome: &Outcome) -> Result<(), String> {
+        let wrong = |what: &str| Err(format!("FAILED: {}: {program}: {what}", self.name));
+        let Outcome {
+            answer, address, ..
+        } = outcome;
+        if (*answer, *address) != (self.answer, self.address) {
+            return wrong(&format!("answer {answer}, address {address:016X}"));
+        }
+        let case = &self.case;
+        let buffers = [
+            ("X", outcome.x == case.x),
+            ("Z", outcome.z == case.z),
+            ("P", outcome.p == case.p),
+            ("ZA", outcome.za == self.za),
+            ("memory", outcome.memory == self.memory),
+        ];
+        match buffers.iter().find(|(_, right)| !right) {
+            Some((buffer, _)) => wrong(&format!("{buffer} is not as it must be")),
+            None => Ok(()),
+        }
+    }
+}
+
+/// Level 3, both switches on, buffers of the right lengths whose bytes are
+/// not zero, no memory, X all zero, and no predicate bit set.
+pub fn case(vector_bytes: usize, word: u32) -> Case {
+    let mut case = Case::empty();
+    case.settings.vector_bytes = vector_bytes as u64;
+    case.settings.level = 3;
+    case.settings.streaming = true;
+    case.settings.za_on = true;
+    case.word = word;
+    case.x = vec![0; 32];
+    case.z = bytes(32 * vector_bytes, 11);
+    case.p = vec![0; 16 * vector_bytes / 8];
+    case.za = bytes(vector_bytes * vector_bytes, 97);
+    case
+}
+
+/// Bytes that are not zero and differ from their neighbours.
+fn bytes(count: usize, first: usize) -> Vec<u8> {
+    let byte = |number: usize| (number * 7 % 251 + 1) as u8;
+    (first..first + count).map(byte).collect()
+}

@@ -1,0 +1,196 @@
+/*
+ * Loads and stores through sme_execute, of every element size at every vector length. What must not be written stands
+ * on pages that can't be: all of it with a refusal, memory with a load, ZA with a store, vector registers always.
+ */
+#include "check.h"
+#include "machine.h"
+
+#include <string.h>
+
+/* A load or store of a slice of tile m - 1: index register 12, predicate 0, base register 1, offset register 2. */
+typedef struct access {
+    size_t m;
+    uint32_t word;
+    bool load, vertical;
+} access;
+
+static const access rows[] = {
+    {1, 0xE0020020, true, false},   {1, 0xE0220020, false, false},  {2, 0xE0420028, true, false},
+    {2, 0xE0620028, false, false},  {4, 0xE082002C, true, false},   {4, 0xE0A2002C, false, false},
+    {8, 0xE0C2002E, true, false},   {8, 0xE0E2002E, false, false},  {16, 0xE1C2002F, true, false},
+    {16, 0xE1E2002F, false, false},
+};
+
+/* What makes a row a column, and what makes base and offset register 31, which are the stack pointer and zero. */
+enum { COLUMN = 0x8000, ON_STACK = 0x1F03E0 };
+
+/* The slice number before it is taken modulo the number of slices. */
+enum { INDEX = 0x103 };
+
+static size_t elements(const machine *own, const access *how)
+{
+    return own->settings.vector_bytes / how->m;
+}
+
+/* A machine on which element 0 is at this address, by the base register. */
+static machine machine_at(uint64_t b, size_t memory_bytes, uint64_t address)
+{
+    machine made = machine_new(b, memory_bytes);
+    set_x(&made, 12, INDEX);
+    set_x(&made, 1, address);
+    set_x(&made, 2, 0);
+    return made;
+}
+
+static void set_inactive(machine *own, const access *how, size_t e)
+{
+    size_t bit = e * how->m;
+    own->p.bytes[bit / 8] = (uint8_t)(own->p.bytes[bit / 8] & ~(1u << bit % 8));
+}
+
+static bool is_active(const machine *own, const access *how, size_t e)
+{
+    size_t bit = e * how->m;
+    return own->p.bytes[bit / 8] >> bit % 8 & 1;
+}
+
+/* Where element e of the slice begins in ZA. */
+static size_t place(const machine *own, const access *how, size_t e)
+{
+    size_t slice = INDEX % elements(own, how);
+    size_t row = how->vertical ? e : slice, column = how->vertical ? slice : e;
+    return (row * how->m + how->m - 1) * own->settings.vector_bytes + column * how->m;
+}
+
+/* Element 0 is at this byte of memory, which may be one before it: then unsigned sums wrap to the bytes in it. */
+static void expect_done(machine *own, const access *how, uint32_t word, size_t first)
+{
+    for (size_t e = 0; e < elements(own, how); e++) {
+        uint8_t *element = own->wanted_za + place(own, how, e);
+        size_t at = first + e * how->m;
+        if (how->load && is_active(own, how, e)) {
+            memcpy(element, own->memory.bytes + at, how->m);
+        } else if (how->load) {
+            memset(element, 0, how->m);
+        } else if (is_active(own, how, e)) {
+            memcpy(own->wanted_memory + at, element, how->m);
+        }
+    }
+    guarded_read_only(&own->z);
+    guarded_read_only(how->load ? &own->memory : &own->za);
+    expect(own, word, SME_DONE, 0);
+}
+
+static void expect_refused(machine *own, uint32_t word, uint32_t wanted, uint64_t wanted_address)
+{
+    guarded_read_only(&own->z);
+    guarded_read_only(&own->za);
+    guarded_read_only(&own->memory);
+    expect(own, word, wanted, wanted_address);
+}
+
+/* All elements, every third and the first alone, from an odd address; the offset register is times m, and wraps. */
+static void done_tests(uint64_t b, const access *how)
+{
+    size_t first = 3 + 5 * how->m;
+    size_t steps[] = {1, 3, b};
+    for (size_t i = 0; i < sizeof steps / sizeof steps[0]; i++) {
+        machine own = machine_at(b, first + b, 0x1003);
+        set_x(&own, 2, 5);
+        set_active(&own, 0, how->m, steps[i]);
+        expect_done(&own, how, how->word, first);
+    }
+    machine own = machine_at(b, first + b, 0x1003);
+    set_x(&own, 2, UINT64_MAX / how->m + 6);
+    expect_done(&own, how, how->word, first);
+    own = machine_at(b, b, 0);
+    set_x(&own, 31, 0x1000);
+    expect_done(&own, how, how->word | ON_STACK, 0);
+}
+
+/* No element is active: a load zeroes the slice, whatever the stack pointer, and without memory; a store does nothing. */
+static void no_active_tests(uint64_t b, const access *how)
+{
+    machine own = machine_at(b, 0, 0);
+    set_x(&own, 31, 0x1008);
+    for (size_t e = 0; e < elements(&own, how); e++) {
+        set_inactive(&own, how, e);
+    }
+    expect_done(&own, how, how->word | ON_STACK, 0);
+}
+
+/* Answers 3 to 6; one active element is enough for 6. */
+static void refused_tests(uint64_t b, const access *how)
+{
+    machine own = machine_at(b, b, 0x1000);
+    own.settings.level = 0;
+    expect_refused(&own, how->word, SME_UNDECODABLE, 0);
+    own = machine_at(b, b, 0x1000);
+    own.settings.streaming = own.settings.za_on = false;
+    expect_refused(&own, how->word, SME_STREAMING_OFF, 0);
+    own = machine_at(b, b, 0x1000);
+    own.settings.za_on = false;
+    expect_refused(&own, how->word, SME_ZA_OFF, 0);
+    own = machine_at(b, b, 0);
+    set_x(&own, 31, 0x1008);
+    set_active(&own, 0, how->m, b);
+    expect_refused(&own, how->word | ON_STACK, SME_STACK_MISALIGNED, 0);
+}
+
+/* Answer 7 at the end of memory: it ends after i bytes of the last element, and so carries the address of byte i. */
+static void end_tests(uint64_t b, const access *how)
+{
+    for (size_t i = 0; i < how->m; i++) {
+        size_t inside = b - how->m + i;
+        machine own = machine_at(b, inside, 0x1000);
+        expect_refused(&own, how->word, SME_OUTSIDE_MEMORY, 0x1000 + inside);
+        own = machine_at(b, inside, 0x1000);
+        set_inactive(&own, how, b / how->m - 1);
+        expect_done(&own, how, how->word, 0);
+    }
+    machine own = machine_at(b, b, 0xFFF);
+    expect_refused(&own, how->word, SME_OUTSIDE_MEMORY, 0xFFF);
+    own = machine_at(b, b, 0xFFF);
+    set_inactive(&own, how, 0);
+    expect_done(&own, how, how->word, SIZE_MAX);
+}
+
+/*
+ * An element that begins before 2^64 and ends after 0 (for bytes: one beside 2^64). With memory at address 0 it is the
+ * first, and its first byte is outside; with memory up to 2^64 it is the last, and its byte at address 0 is outside.
+ */
+static void wrap_tests(uint64_t b, const access *how)
+{
+    uint64_t before = how->m == 1 ? 1 : how->m / 2;
+    for (int active = 0; active < 2; active++) {
+        machine low = machine_at(b, b, 0 - before);
+        low.settings.memory_address = 0;
+        machine high = machine_at(b, b, 0 - b + before);
+        high.settings.memory_address = 0 - b;
+        if (active) {
+            expect_refused(&low, how->word, SME_OUTSIDE_MEMORY, 0 - before);
+            expect_refused(&high, how->word, SME_OUTSIDE_MEMORY, 0);
+        } else {
+            set_inactive(&low, how, 0);
+            expect_done(&low, how, how->word, (size_t)0 - before);
+            set_inactive(&high, how, b / how->m - 1);
+            expect_done(&high, how, how->word, before);
+        }
+    }
+}
+
+void access_tests(void)
+{
+    for (uint64_t b = SME_MIN_VECTOR_BYTES; b <= SME_MAX_VECTOR_BYTES; b *= 2) {
+        for (size_t i = 0; i < 2 * sizeof rows / sizeof rows[0]; i++) {
+            access how = rows[i / 2];
+            how.vertical = i % 2 == 1;
+            how.word |= how.vertical ? COLUMN : 0;
+            done_tests(b, &how);
+            no_active_tests(b, &how);
+            refused_tests(b, &how);
+            end_tests(b, &how);
+            wrap_tests(b, &how);
+        }
+    }
+}

@@ -1,0 +1,38 @@
+/* Buffers that a word is executed on, with what they should hold after it. */
+#ifndef MACHINE_H
+#define MACHINE_H
+
+#include "guarded.h"
+#include "sme_move.h"
+
+/* A machine's buffers, and copies that say what they should hold after the call. */
+typedef struct machine {
+    sme_settings settings;
+    guarded x, z, p, za, memory;
+    uint8_t *wanted_z, *wanted_za, *wanted_memory;
+} machine;
+
+/* The lengths of a machine's buffers, in bytes. */
+typedef struct lengths {
+    size_t x, z, p, za, memory;
+} lengths;
+
+lengths right_lengths(uint64_t vector_bytes, size_t memory_bytes);
+
+/* Level 3, both switches on, every predicate bit set, memory at address 1000 hex. */
+machine machine_with(uint64_t vector_bytes, lengths bytes);
+
+machine machine_new(uint64_t vector_bytes, size_t memory_bytes);
+
+void set_x(machine *own, size_t number, uint64_t value);
+
+/* Leaves only the elements active whose numbers are multiples of step; bits that are not looked at stay set. */
+void set_active(machine *own, size_t predicate, size_t element_bytes, size_t step);
+
+/*
+ * Executes, X and P on pages that can't be written, and holds answer, address and every byte to what is wanted. The
+ * machine is freed.
+ */
+void expect(machine *own, uint32_t word, uint32_t wanted, uint64_t wanted_address);
+
+#endif
