@@ -1,9 +1,9 @@
--- Laws of the definitions of loads and stores (specs/Access.antt of the crate execution): the least place that passes a test, addresses,
+-- Laws of the definitions of loads and stores (specs/Access.antt of the crate execution): addresses,
 -- the test for a fault; and that what the code computes is what execution answers and writes.
 -- Assumes nothing.
 use Prim.Native.Nat.{ℕ, zero, suc, _+_, _*_, _-_, _/_, _%_, _^_, _<_, _≤_}
 use mathlib.Core.Path.{_≡_, refl, sym, ap, _∙_, fun-ext}
-use mathlib.Core.Bool.{Bool, true, false, cond, _&&_, not, and-eq-true-iff}
+use mathlib.Core.Bool.{Bool, true, false, _&&_, not, and-eq-true-iff}
 use mathlib.Core.List.{List}
 use mathlib.Core.Option.{Option, none, some}
 use native.Mathlib.Nat.{le-antisymm, mul-le-mul, mul-le-mul-right, mod-eq-of-lt, mod-lt, div-mul-le-self}
@@ -23,60 +23,19 @@ use Rattle.encoding.specs.declared.operation.SliceAccess.{SliceAccess}
 use Rattle.tiles.specs.Scatter.{pick, scatter, all, from}
 use Rattle.tiles.specs.Predicate.{active}
 use Rattle.tiles.specs.Tile.{sliceAt}
+use Rattle.tiles.specs.Least.{least, isSome}
+use Rattle.tiles.proofs.LeastLaws.{least-never, least-none}
 use Rattle.tiles.proofs.ScatterLaws.{getD-scatter, scatter-more, scatter-agree}
 use Rattle.moves.proofs.BlockLaws.{Written, written}
 use Rattle.execution.specs.declared.answer.Executed.{Executed}
 use Rattle.execution.specs.declared.answer.Executed.the-variants.{Done, StackMisaligned, OutsideMemory}
-use Rattle.execution.specs.Access.{baseOf, addressAt, addressOf, inMemory, orElse, least, isSome}
+use Rattle.execution.specs.Access.{baseOf, addressAt, addressOf, inMemory}
 use Rattle.execution.specs.Effect.{sliceAccessed, stored, loaded}
 use Rattle.execution.specs.Execute.{strideOf, faulting, faultAnswer, stackBad, accessAnswer}
 use Rattle.access.specs.Promise.{insideAt, AccessReady, elementBits, allSet, Reaches, Accesses}
 use Rattle.access.specs.declared.reach.Reach.the-variants as reach
 use Rattle.tiles.proofs.LengthLaws.{Whole, whole}
 use Rattle.execution.proofs.ExecuteLaws.{Refusal, guard-done}
-
--- ---- least
-
-module _ (f : ℕ → Bool) where
-  pub least-zero : least f 0 ≡ none
-  unfolding least
-  least-zero = refl
-
-  -- one more place, which fails the test
-  pub least-more : (k : ℕ) → least f k ≡ none → f k ≡ false → least f (k + 1) ≡ none
-  unfolding least
-  least-more k e h = rw (add-one k, e, h)
-
-  pub least-end : (k n : ℕ) → least f k ≡ none → k ≤ n → n ≤ k → least f n ≡ none
-  least-end k n e h w = rw (← le-antisymm h w) e
-
-  -- a place that passes the test, and none before it does
-  pub least-found : (k n : ℕ) → least f k ≡ none → f k ≡ true → k < n → least f n ≡ some k
-  unfolding least
-  least-found k zero e h w = absurd (omega arith)
-  least-found k (suc n) e h w = go (λ v. least-found k n e h v) (ℕ-discrete n k)
-    where
-      go : (k < n → least f n ≡ some k) → Dec (n ≡ k) → orElse (least f n) (cond (f n) (some n) none) ≡ some k
-      go ih (yes q) = rw (q, e, h)
-      go ih (no ne) = rw (ih (omega arith))
-
-  -- where every place fails the test there is none
-  pub least-never : (n : ℕ) → ((k : ℕ) → k < n → f k ≡ false) → least f n ≡ none
-  unfolding least
-  least-never zero h = refl
-  least-never (suc n) h = rw (least-never n (λ k w. h k (omega arith)), h n (omega arith))
-
-  -- where there is none, every place fails the test
-  pub least-none : (n : ℕ) → least f n ≡ none → (k : ℕ) → k < n → f k ≡ false
-  unfolding least
-  least-none zero e k w = absurd (omega arith)
-  least-none (suc n) e k w = go (least f n) refl (f n) refl e (λ q v. least-none n q k v) (ℕ-discrete k n)
-    where
-      go : (o : Option ℕ) → least f n ≡ o → (b : Bool) → f n ≡ b → orElse o (cond b (some n) none) ≡ none → (least f n ≡ none → k < n → f k ≡ false) → Dec (k ≡ n) → f k ≡ false
-      go (some j) q b h e ih d = let z : _≡_ {A = ℕ} 0 1 = cc in absurd (omega arith)
-      go none q true h e ih d = let z : _≡_ {A = ℕ} 0 1 = cc in absurd (omega arith)
-      go none q false h e ih (yes r) = rw r h
-      go none q false h e ih (no ne) = ih q (omega arith)
 
 -- ---- addresses
 

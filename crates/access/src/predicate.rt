@@ -3,7 +3,7 @@ ghost use mathlib.Core.Path.{_≡_};
 ghost use Prim.Native.Nat.{_+_, _*_, _/_, _<_, _≤_};
 ghost use lib.ListN.{length};
 ghost use Rattle.tiles.specs.Predicate.{active};
-ghost use Rattle.execution.specs.Access.{least, isSome};
+ghost use Rattle.tiles.specs.Least.{least, isSome};
 ghost use Rattle.access.specs.Promise.{elementBits, allSet};
 use encoding::ElementSize;
 

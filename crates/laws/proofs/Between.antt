@@ -17,6 +17,7 @@ use Rattle.settings.specs.Settings.{isVectorLength}
 use Rattle.encoding.specs.Table.{table}
 use Rattle.encoding.specs.Codec.{rowOfWord, decodeOf}
 use Rattle.encoding.proofs.RangeLaws.{decoded-in-range}
+use Rattle.tiles.specs.Least.{least}
 use Rattle.tiles.specs.Scatter.{scatter, all}
 use Rattle.tiles.specs.Predicate.{active}
 use Rattle.tiles.specs.Tile.{flip, byteOf, sliceAt}
@@ -25,7 +26,6 @@ use Rattle.tiles.proofs.LengthLaws.{whole}
 use Rattle.tiles.proofs.SliceLaws.{active-element, written-at}
 use Rattle.execution.specs.declared.answer.Executed.{Executed}
 use Rattle.execution.specs.declared.answer.Executed.the-variants as executed
-use Rattle.execution.specs.Access.{least}
 use Rattle.execution.specs.Effect.{State, takenFromTile, takenFromArray, zeroedInArray, stored, loaded}
 use Rattle.execution.specs.Execute.{accessAnswer, answerOf, executeOf}
 use Rattle.execution.proofs.ExecuteLaws.{Ends, does, stays, ends}

@@ -12,10 +12,10 @@ use Rattle.encoding.specs.declared.operation.ElementSize.{ElementSize}
 use Rattle.encoding.specs.declared.operation.ElementSize.the-variants.{Bits32}
 use Rattle.encoding.specs.declared.operation.Direction.{Direction}
 use Rattle.encoding.specs.declared.operation.Direction.the-variants.{Horizontal}
+use Rattle.tiles.specs.Least.{least}
 use Rattle.tiles.specs.Predicate.{active}
 use Rattle.execution.specs.declared.answer.Executed.{Executed}
 use Rattle.execution.specs.Answer.{executedNumber}
-use Rattle.execution.specs.Access.{least}
 use Rattle.execution.specs.Execute.{accessAnswer, answerOf, executeOf}
 use Rattle.execution.specs.ExampleBuffers.{zaAt}
 use Rattle.execution.proofs.ExecuteLaws.{Refusal}

@@ -6,8 +6,8 @@ use mathlib.Core.Option.{none}
 use Prim.Native.Nat.{_-_, _≤_}
 use native.Mathlib.Omega.{arith}
 use Rattle.tiles.specs.Predicate.{active}
-use Rattle.execution.specs.Access.{least, isSome}
-use Rattle.access.proofs.AccessLaws.{least-zero, least-more, least-end, least-found}
+use Rattle.tiles.specs.Least.{least, isSome}
+use Rattle.tiles.proofs.LeastLaws.{least-zero, least-more, least-end, least-found}
 use Rattle.access.proofs.predicate.any_active.Statement.{statement}
 use Rattle.access.proofs.predicate.any_active.Tie as tie
 

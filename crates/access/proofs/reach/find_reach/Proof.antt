@@ -6,7 +6,7 @@ use mathlib.Core.Path.{_≡_, sym, ap, _∙_}
 use mathlib.Core.Bool.{Bool, true, false}
 use native.Mathlib.Omega.{arith}
 use lib.ListN.{length}
-use Rattle.execution.specs.Access.{least}
+use Rattle.tiles.specs.Least.{least}
 use Rattle.execution.specs.Execute.{stackBad, faulting}
 use Rattle.access.proofs.AccessLaws.{Prepared, prepared, stack-tested, refusal-stack, refusal-memory, stack-refused, fault-refused, access-done, inside-facts, reaches-whole, fault-same, faultAt}
 use Rattle.access.proofs.reach.find_reach.Statement.{statement}

@@ -7,8 +7,9 @@ use mathlib.Core.Bool.{true, false}
 use mathlib.Core.Option.{none}
 use Prim.Native.Nat.{_-_, _≤_}
 use native.Mathlib.Omega.{arith}
-use Rattle.execution.specs.Access.{least}
-use Rattle.access.proofs.AccessLaws.{least-zero, least-more, least-end, least-found, faultAt, inactive-passes, active-tested}
+use Rattle.tiles.specs.Least.{least}
+use Rattle.tiles.proofs.LeastLaws.{least-zero, least-more, least-end, least-found}
+use Rattle.access.proofs.AccessLaws.{faultAt, inactive-passes, active-tested}
 use Rattle.access.proofs.reach.first_fault.Statement.{statement}
 use Rattle.access.proofs.reach.first_fault.Tie as tie
 
