@@ -5,11 +5,11 @@
  * allocation, no global and no last error. Every word, setting and buffer length has an answer; a refusal
  * changes no buffer. Calls on different buffers may run at once.
  *
- * No two of the buffers and results of one call may overlap. An empty memory may be (NULL, 0); every other
- * pointer must point to as many items as its length says, aligned for its type.
+ * No two of the buffers and results of one call may overlap. An empty memory and an empty array of tiles may be
+ * (NULL, 0); every other pointer must point to as many items as its length says, aligned for its type.
  *
- * Hosts call the wrappers at the end, which take settings as a record made by sme_settings_new: a host's
- * source then stays as it is when a later version adds a setting.
+ * Hosts call the wrappers at the end, which take settings as a record made by sme_settings_new, and held tiles as
+ * one made by sme_held_none: a host's source then stays as it is when a later version adds a setting.
  */
 #ifndef SME_MOVE_H
 #define SME_MOVE_H
@@ -19,13 +19,16 @@
 #include <stdint.h>
 
 #define SME_MOVE_VERSION_MAJOR 0
-#define SME_MOVE_VERSION_MINOR 3
+#define SME_MOVE_VERSION_MINOR 4
 
 #ifdef __cplusplus
 extern "C" {
 #endif
 
-/* Answers. Of several that apply the lowest is given. */
+/*
+ * Answers. Of several that apply the lowest is given, but where a tile is taken: there it is 8, then 16, then 13.
+ * Numbers that are missing here are no answers of this version.
+ */
 enum sme_answer {
     /* done */
     SME_DONE = 0,
@@ -44,14 +47,27 @@ enum sme_answer {
     /* a byte of an active element is not in memory; comes with the address of the lowest such element's first such
      * byte */
     SME_OUTSIDE_MEMORY = 7,
-    /* encoding: a field is outside its range, or no word has such an operation */
-    SME_OUT_OF_RANGE = 8
+    /*
+     * encoding: a field is outside its range, or no word has such an operation; taking a tile: the asked element
+     * bytes are not 1, 2, 4, 8 or 16
+     */
+    SME_OUT_OF_RANGE = 8,
+    /* every tile of the asked element bytes shares a byte with a held one */
+    SME_NO_FREE_TILE = 13,
+    /*
+     * a held tile does not exist, two of them share a byte, or the tile to give up is not held; also where the held
+     * tiles are more than 16 or more than their array has, or it has no place for the tile that was found
+     */
+    SME_BAD_HELD = 16
 };
 
 /* The limits of the vector length in bytes, which is a power of two, and the highest feature level. */
 #define SME_MIN_VECTOR_BYTES 16
 #define SME_MAX_VECTOR_BYTES 256
 #define SME_MAX_LEVEL 3
+
+/* How many tiles can be held at once: of more than sixteen, two share a byte. */
+#define SME_MAX_HELD 16
 
 /* The lengths that a vector length fixes: X in numbers, the others in bytes. */
 #define SME_X_COUNT 32
@@ -172,6 +188,44 @@ uint32_t sme_check_settings(uint64_t vector_bytes, uint64_t level);
  */
 uint32_t sme_lengths(uint64_t vector_bytes, uint64_t *lengths);
 
+/*
+ * Takes one more tile: the lowest-numbered one of the asked element size that shares no byte with a held one. It then
+ * is the last of the held tiles.
+ *
+ * A tile is two numbers, its element bytes m (1, 2, 4, 8 or 16) and its number below m. Tile t of m bytes is tiles t
+ * and t + m of 2m bytes, at every vector length; so tiles of different sizes may share bytes of ZA.
+ *
+ * tiles, tiles_count
+ *                so many numbers, two for each tile, first its element bytes and then its number; room for
+ *                SME_MAX_HELD tiles is always enough
+ * count          how many tiles are held: those at the beginning of tiles; with answer 0 one more than before
+ * element_bytes  m of the tile that is asked for
+ * tile           always written: the number of the new tile, 0 with a refusal
+ *
+ * Returns SME_DONE; SME_OUT_OF_RANGE where m is none of the five; else SME_BAD_HELD where the held tiles are not as
+ * they should be, or where a tile is free and tiles has no place for it; else SME_NO_FREE_TILE, exactly when no tile
+ * of m bytes is free. A refusal changes neither tiles nor count. Answer 0 writes the two numbers behind the held
+ * tiles; the others stay as they are, and no number behind the held tiles is read for the answer.
+ */
+uint32_t sme_take_tile(uint64_t *tiles, size_t tiles_count, size_t *count, uint64_t element_bytes,
+                       uint64_t *tile);
+
+/*
+ * Gives up a held tile, and no other; those after it move up, in their order.
+ *
+ * tiles, tiles_count
+ *                as above
+ * count          how many tiles are held; with answer 0 one less than before
+ * element_bytes  the element bytes of the tile to give up
+ * tile           its number
+ *
+ * Returns SME_DONE, or SME_BAD_HELD where the held tiles are not as they should be or the tile is not one of them,
+ * which one with impossible element bytes never is. A refusal changes neither tiles nor count. Numbers behind the
+ * tiles that are then held stay as they are.
+ */
+uint32_t sme_give_up_tile(uint64_t *tiles, size_t tiles_count, size_t *count, uint64_t element_bytes,
+                          uint64_t tile);
+
 #ifdef __cplusplus
 }
 #endif
@@ -198,6 +252,15 @@ typedef struct sme_buffers {
     uint8_t *memory;
     size_t memory_bytes;
 } sme_buffers;
+
+/*
+ * The tiles that a kernel holds: the first count of them, each its element bytes and its number. Make it with
+ * sme_held_none; numbers behind the held tiles mean nothing.
+ */
+typedef struct sme_held {
+    uint64_t tiles[2 * SME_MAX_HELD];
+    size_t count;
+} sme_held;
 
 /*
  * Settings of this vector length and level, with both switches off and memory at address 0. They are not
@@ -254,7 +317,11 @@ static inline const char *sme_answer_text(uint32_t answer)
     case SME_OUTSIDE_MEMORY:
         return "an address is not in memory";
     case SME_OUT_OF_RANGE:
-        return "no word encodes this operation";
+        return "no word encodes this operation, or no element has so many bytes";
+    case SME_NO_FREE_TILE:
+        return "no tile of this size is free";
+    case SME_BAD_HELD:
+        return "a held tile does not exist, two share a byte, or the tile is not held";
     default:
         return "no answer of this version";
     }
@@ -286,6 +353,29 @@ static inline uint32_t sme_settings_execute(sme_settings settings, uint32_t word
                        settings.memory_address, word, buffers.x, buffers.x_count, buffers.z,
                        buffers.z_bytes, buffers.p, buffers.p_bytes, buffers.za, buffers.za_bytes,
                        buffers.memory, buffers.memory_bytes, address);
+}
+
+/* No held tiles. */
+static inline sme_held sme_held_none(void)
+{
+    sme_held held;
+    for (size_t i = 0; i < 2 * SME_MAX_HELD; i++) {
+        held.tiles[i] = 0;
+    }
+    held.count = 0;
+    return held;
+}
+
+/* sme_take_tile on this record. */
+static inline uint32_t sme_held_take(sme_held *held, uint64_t element_bytes, uint64_t *tile)
+{
+    return sme_take_tile(held->tiles, 2 * SME_MAX_HELD, &held->count, element_bytes, tile);
+}
+
+/* sme_give_up_tile on this record. */
+static inline uint32_t sme_held_give_up(sme_held *held, uint64_t element_bytes, uint64_t tile)
+{
+    return sme_give_up_tile(held->tiles, 2 * SME_MAX_HELD, &held->count, element_bytes, tile);
 }
 
 #endif

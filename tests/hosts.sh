@@ -1,5 +1,5 @@
 #!/usr/bin/env bash
-# Takes the kernel and the hosts in C and in Rust out of the README, runs them with the commands that stand
+# Takes the kernel, the tiles and the hosts in C and in Rust out of the README, runs them with the commands that stand
 # there, and holds what they print to what stands there.
 # Build first: rt staticlib sme_move
 set -euo pipefail
@@ -26,8 +26,9 @@ echo "exec bash '$root/run.sh' \"\$@\"" >"$out/run.sh"
 
 block kernel 1 >"$out/kernel.txt"
 block c 1 >"$out/host.c"
+block c 2 >"$out/tiles.c"
 block rust 1 >"$out/host.rs"
-for host in 1 2 3; do
+for host in 1 2 3 4 5; do
     block sh "$host" >"$out/commands"
     block text "$host" >"$out/expected"
     (cd "$out" && bash -euo pipefail commands) >"$out/printed"
@@ -42,4 +43,4 @@ block output 1 >"$out/part"
 awk -v first="$(head -1 "$out/part")" -v lines="$(wc -l <"$out/part")" '
     $0 == first { on = 1 }
     on && count++ < lines' rust/runner/tests/example.stdout | diff - "$out/part"
-echo "the kernel and both hosts of the README print what stands there"
+echo "the kernel, the tiles and the hosts of the README print what stands there"

@@ -25,13 +25,17 @@
     } while (0)
 
 /* Exported functions, and how often each gave each answer. */
-enum function { EXECUTE, DECODE, ENCODE, CHECK_SETTINGS, LENGTHS, FUNCTIONS };
+enum function { EXECUTE, DECODE, ENCODE, CHECK_SETTINGS, LENGTHS, TAKE_TILE, GIVE_UP_TILE, FUNCTIONS };
 
-extern unsigned seen[FUNCTIONS][9];
+/* The answers are below this. */
+enum { ANSWERS = 17 };
+
+extern unsigned seen[FUNCTIONS][ANSWERS];
 
 void access_tests(void);
 void execute_tests(void);
 void word_tests(void);
 void settings_tests(void);
+void tile_tests(void);
 
 #endif

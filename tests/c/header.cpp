@@ -1,8 +1,20 @@
-// The header in C++: its constructor, wrappers and linkage.
+// The header in C++: its constructors, wrappers and linkage.
 #include "sme_move.h"
 
 #include <cstdio>
 #include <vector>
+
+// Whether tiles are taken and given up as they should be.
+static bool tiles_right()
+{
+    sme_held held = sme_held_none();
+    uint64_t tile = 9;
+    const bool taken = sme_held_take(&held, 2, &tile) == SME_DONE && tile == 0 &&
+                       sme_held_take(&held, 4, &tile) == SME_DONE && tile == 1 &&
+                       sme_held_take(&held, 2, &tile) == SME_NO_FREE_TILE && tile == 0;
+    return taken && sme_held_give_up(&held, 2, 0) == SME_DONE && held.count == 1 &&
+           sme_held_give_up(&held, 2, 0) == SME_BAD_HELD && held.tiles[0] == 4 && held.tiles[1] == 1;
+}
 
 int main()
 {
@@ -18,5 +30,5 @@ int main()
     const bool right = answer == SME_DONE && address == 0 && za[4 * 16 + 15] == 0 && za[5 * 16] == 7 &&
                        za[5 * 16 + 15] == 7 && za[6 * 16] == 0;
     std::printf("C++: answer %u, %s\n", answer, sme_answer_text(answer));
-    return right ? 0 : 1;
+    return right && tiles_right() ? 0 : 1;
 }

@@ -5,7 +5,7 @@
 
 #include <string.h>
 
-unsigned seen[FUNCTIONS][9];
+unsigned seen[FUNCTIONS][ANSWERS];
 
 static const struct {
     const char *name;
@@ -17,6 +17,8 @@ static const struct {
     {"sme_encode", 1 << SME_DONE | 1 << SME_OUT_OF_RANGE},
     {"sme_check_settings", 1 << SME_DONE | 1 << SME_BAD_SETTINGS},
     {"sme_lengths", 1 << SME_DONE | 1 << SME_BAD_SETTINGS},
+    {"sme_take_tile", 1 << SME_DONE | 1 << SME_OUT_OF_RANGE | 1 << SME_NO_FREE_TILE | 1 << SME_BAD_HELD},
+    {"sme_give_up_tile", 1 << SME_DONE | 1 << SME_BAD_HELD},
 };
 
 /* Prints the counts; an answer that was never seen, or can't be given, fails. */
@@ -24,13 +26,29 @@ static void report(void)
 {
     for (int f = 0; f < FUNCTIONS; f++) {
         printf("%s:", functions[f].name);
-        for (unsigned answer = 0; answer <= SME_OUT_OF_RANGE; answer++) {
+        for (unsigned answer = 0; answer < ANSWERS; answer++) {
             CHECK((seen[f][answer] != 0) == (functions[f].can >> answer & 1));
             if (seen[f][answer] != 0) {
                 printf(" %u of answer %u", seen[f][answer], answer);
             }
         }
         printf("\n");
+    }
+}
+
+/* Every answer that some function can give has words of its own, and no other number has. */
+static void text_tests(void)
+{
+    const char *none = sme_answer_text(ANSWERS);
+    unsigned can = 0;
+    for (int f = 0; f < FUNCTIONS; f++) {
+        can |= functions[f].can;
+    }
+    for (unsigned answer = 0; answer < ANSWERS; answer++) {
+        CHECK((strcmp(sme_answer_text(answer), none) != 0) == (can >> answer & 1));
+        for (unsigned other = 0; other < answer; other++) {
+            CHECK((can >> answer & 1) == 0 || strcmp(sme_answer_text(answer), sme_answer_text(other)) != 0);
+        }
     }
 }
 
@@ -42,10 +60,9 @@ int main(void)
         word_tests();
         execute_tests();
         access_tests();
+        tile_tests();
     }
-    for (uint32_t answer = 0; answer <= SME_OUT_OF_RANGE; answer++) {
-        CHECK(strcmp(sme_answer_text(answer), sme_answer_text(9)) != 0);
-    }
+    text_tests();
     report();
     return 0;
 }

@@ -1,5 +1,7 @@
 // What hosts link: functions over numbers and slices, which only call the crates below.
 ghost use mathlib.Core.Path.{_≡_};
+ghost use Rattle.planner.specs.Tile.{tileOf};
+ghost use Rattle.lent_tiles.specs.Lent.{TakesTile, GivesUpTile};
 ghost use Rattle.sme_move.specs.Export.{Exports, DecodeExports, EncodeExports, checkNumber, LengthExports};
 use encoding::Decoded;
 use settings::Settings;
@@ -79,4 +81,33 @@ pub extern "C" fn sme_lengths(vector_bytes: u64, lengths: &mut [u64; 4]) -> u32
     ensures { λ r. ⌜ LengthExports «vector_bytes» (now (lengths .entry)) r (now (lengths .exit)) ⌝ }
 {
     settings::measure(vector_bytes, lengths).number()
+}
+
+// Takes the lowest-numbered free tile with elements of so many bytes, and returns the answer's number: 0, with the
+// tile's number in `tile` and the tile as the last of the held ones; or 8, 16 or 13 (request 9), with 0 in `tile`, and
+// `tiles` and `count` as they were.
+#[no_mangle]
+pub extern "C" fn sme_take_tile(
+    tiles: &mut [u64],
+    count: &mut usize,
+    element_bytes: u64,
+    tile: &mut u64,
+) -> u32
+    ensures { λ r. ⌜ TakesTile (now (tiles .entry)) (now (count .entry)) «element_bytes» r (now (tile .exit)) (now (tiles .exit)) (now (count .exit)) ⌝ }
+{
+    lent_tiles::take_tile(tiles, count, element_bytes, tile)
+}
+
+// Gives up a held tile, and returns the answer's number: 0, with that tile no longer among the held ones; or 16
+// (request 9), with `tiles` and `count` as they were.
+#[no_mangle]
+pub extern "C" fn sme_give_up_tile(
+    tiles: &mut [u64],
+    count: &mut usize,
+    element_bytes: u64,
+    tile: u64,
+) -> u32
+    ensures { λ r. ⌜ GivesUpTile (now (tiles .entry)) (now (count .entry)) (tileOf «element_bytes» tile) r (now (tiles .exit)) (now (count .exit)) ⌝ }
+{
+    lent_tiles::give_up_tile(tiles, count, element_bytes, tile)
 }

@@ -1,6 +1,6 @@
 //! What the command line asks for.
 
-use crate::command::{unknown, Options};
+use crate::command::{mistake, unknown, with_mistakes, Options};
 use crate::rows::Drawn;
 use second::execute::Mistake;
 use std::ffi::OsString;
@@ -35,7 +35,9 @@ impl Arguments {
                 "--seed" => arguments.seed = options.number(&option)?,
                 "--count" => arguments.count = options.number(&option)?,
                 "--request" => arguments.drawn = request(options.number(&option)?)?,
-                "--mistake" => arguments.mistake = mistake(&options.value(&option)?)?,
+                "--mistake" => {
+                    arguments.mistake = mistake(&options.value(&option)?, Mistake::named)?
+                }
                 _ => return Err(unknown(&option)),
             }
         }
@@ -45,25 +47,17 @@ impl Arguments {
 
 /// How to call the program, with the names of the mistakes.
 pub fn usage() -> String {
-    let mut usage = String::from(
+    with_mistakes(
         "usage: compare [--seed S] [--count N] [--request 1|2] [--mistake NAME]\n\
          Compares the archive with the second program on N random states (200000). With --request\n\
          words are drawn only from the rows that this request added to the table, and only these\n\
          rows are counted and judged, beside words without an encoding. Where there are loads and\n\
          stores among them, worked examples with the answer written out come first. With a mistake\n\
          the second program makes it, and a difference must be found.",
-    );
-    for (name, _) in Mistake::NAMED {
-        usage.push_str("\n  NAME: ");
-        usage.push_str(name);
-    }
-    usage
+        &Mistake::NAMED,
+    )
 }
 
 fn request(number: u64) -> Result<Drawn, String> {
     Drawn::of_request(number).ok_or_else(|| format!("{number}: no such request"))
-}
-
-fn mistake(name: &str) -> Result<Mistake, String> {
-    Mistake::named(name).ok_or_else(|| format!("{name}: no such mistake"))
 }

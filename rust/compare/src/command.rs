@@ -60,6 +60,17 @@ impl<I: Iterator<Item = OsString>> Options<I> {
     }
 }
 
+/// A help text with the names of the mistakes behind it.
+pub fn with_mistakes<M>(usage: &str, named: &[(&str, M)]) -> String {
+    let names = named.iter().map(|(name, _)| format!("\n  NAME: {name}"));
+    usage.to_string() + &names.collect::<String>()
+}
+
+/// The mistake that `named` finds by its name.
+pub fn mistake<M>(name: &str, named: fn(&str) -> Option<M>) -> Result<M, String> {
+    named(name).ok_or_else(|| format!("{name}: no such mistake"))
+}
+
 /// What to say of an option that there is not.
 pub fn unknown(option: &str) -> String {
     format!("{option}: no such option")

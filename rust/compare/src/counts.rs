@@ -64,15 +64,7 @@ impl Counts {
     /// An error, a line for each, if a case that can occur is missing or one
     /// occurred that cannot.
     pub fn check(&self) -> Result<(), String> {
-        let complaints = self.complaints();
-        if complaints.is_empty() {
-            return Ok(());
-        }
-        let lines: Vec<String> = complaints
-            .iter()
-            .map(|own| format!("FAILED: {own}"))
-            .collect();
-        Err(lines.join("\n"))
+        no_complaints(&self.complaints())
     }
 
     fn complaints(&self) -> Vec<String> {
@@ -83,6 +75,15 @@ impl Counts {
         }
         complaints
     }
+}
+
+/// An error, a line for each, if there are complaints.
+pub fn no_complaints(complaints: &[String]) -> Result<(), String> {
+    if complaints.is_empty() {
+        return Ok(());
+    }
+    let lines = complaints.iter().map(|own| format!("FAILED: {own}"));
+    Err(lines.collect::<Vec<_>>().join("\n"))
 }
 
 impl Display for Counts {

@@ -18,5 +18,6 @@ pub mod situations;
 pub mod table;
 #[cfg(test)]
 mod tests;
+pub mod tiles;
 mod view;
 pub mod worked;

@@ -5,6 +5,7 @@ use crate::input::Source;
 use crate::paint::ColorChoice;
 use crate::script::vector_bytes;
 use crate::wording::quoted;
+use sme_move::Tile;
 use std::ffi::{OsStr, OsString};
 
 /// How many columns a grid may have where nothing is said.
@@ -12,10 +13,27 @@ const WIDTH: u64 = 120;
 
 pub enum Task {
     Help,
-    Run { source: Source },
-    Decode { level: u64, words: Vec<u32> },
-    Map { vector_bytes: usize },
-    Drawing { vector_bytes: usize, file: OsString },
+    Run {
+        source: Source,
+    },
+    Decode {
+        level: u64,
+        words: Vec<u32>,
+    },
+    Map {
+        sheet: Sheet,
+    },
+    Take {
+        element_bytes: u64,
+        held: Vec<Tile>,
+        sheet: Sheet,
+    },
+}
+
+/// The array that is shown, and where its drawing goes if that is wanted and no table.
+pub struct Sheet {
+    pub vector_bytes: usize,
+    pub drawing: Option<OsString>,
 }
 
 pub struct Command {
@@ -34,7 +52,18 @@ struct Given {
 }
 
 const FLAGS: [&str; 4] = ["--help", "--decode", "--map", "--all"];
-const VALUES: [&str; 5] = ["--level", "--vector-bytes", "--svg", "--color", "--width"];
+const VALUES: [&str; 6] = [
+    "--take",
+    "--level",
+    "--vector-bytes",
+    "--svg",
+    "--color",
+    "--width",
+];
+
+/// The options that a sheet has, and the tasks that have one.
+const OF_SHEET: [&str; 2] = ["--vector-bytes", "--svg"];
+const WITH_SHEET: &str = "--map or --take";
 
 pub fn parse(arguments: impl Iterator<Item = OsString>) -> Result<Command, String> {
     let given = Given::read(arguments)?;
@@ -115,11 +144,17 @@ impl Given {
         if self.has("--help") {
             return Ok(Task::Help);
         }
-        match (self.has("--decode"), self.has("--map")) {
-            (true, true) => Err("--decode and --map do not go together".to_string()),
-            (true, false) => self.decode(),
-            (false, true) => self.map(),
-            (false, false) => self.run(),
+        let given = |name: &&str| self.has(name) || self.value(name).is_some();
+        let tasks: Vec<&str> = ["--decode", "--map", "--take"]
+            .into_iter()
+            .filter(given)
+            .collect();
+        match tasks.as_slice() {
+            ["--decode"] => self.decode(),
+            ["--map"] => self.map(),
+            ["--take"] => self.take(),
+            [one, other, ..] => Err(format!("{one} and {other} do not go together")),
+            _ => self.run(),
         }
     }
 
@@ -132,7 +167,7 @@ impl Given {
     }
 
     fn decode(&self) -> Result<Task, String> {
-        self.without(&["--vector-bytes", "--svg"], "--map")?;
+        self.without(&OF_SHEET, WITH_SHEET)?;
         if self.operands.is_empty() {
             return Err("--decode takes one or more words".to_string());
         }
@@ -154,20 +189,31 @@ impl Given {
                 quoted(operand)
             ));
         }
+        let sheet = self.sheet()?;
+        Ok(Task::Map { sheet })
+    }
+
+    fn take(&self) -> Result<Task, String> {
+        self.without(&["--level"], "--decode")?;
+        let held = self.operands.iter().map(|operand| tile(operand));
+        Ok(Task::Take {
+            element_bytes: self.number("--take", 0)?,
+            held: held.collect::<Result<_, _>>()?,
+            sheet: self.sheet()?,
+        })
+    }
+
+    fn sheet(&self) -> Result<Sheet, String> {
         let length = self.value("--vector-bytes").map(OsStr::to_string_lossy);
-        let vector_bytes = vector_bytes(length.as_deref().unwrap_or("16"))? as usize;
-        Ok(match self.value("--svg") {
-            None => Task::Map { vector_bytes },
-            Some(file) => Task::Drawing {
-                vector_bytes,
-                file: file.to_os_string(),
-            },
+        Ok(Sheet {
+            vector_bytes: vector_bytes(length.as_deref().unwrap_or("16"))? as usize,
+            drawing: self.value("--svg").map(OsStr::to_os_string),
         })
     }
 
     fn run(&self) -> Result<Task, String> {
         self.without(&["--level"], "--decode")?;
-        self.without(&["--vector-bytes", "--svg"], "--map")?;
+        self.without(&OF_SHEET, WITH_SHEET)?;
         let source = match self.operands.as_slice() {
             [] => Source::Example,
             [operand] if operand == "-" => Source::StandardInput,
@@ -180,60 +226,25 @@ impl Given {
     }
 }
 
+/// A held tile. Whether it exists is the unit's to answer.
+fn tile(operand: &OsStr) -> Result<Tile, String> {
+    let two = operand.to_str().and_then(|text| text.split_once(':'));
+    let numbers = two.and_then(|(size, number)| Some((decimal(size)?, decimal(number)?)));
+    let (element_bytes, number) = numbers.ok_or_else(|| {
+        format!(
+            "a held tile is its element bytes and its number, such as 4:1, not {}",
+            quoted(operand)
+        )
+    })?;
+    Ok(Tile {
+        element_bytes,
+        number,
+    })
+}
+
 fn unknown(text: &str) -> String {
     format!("there is no option {}", quoted(OsStr::new(text)))
 }
 
 #[cfg(test)]
-mod tests {
-    use super::*;
-
-    fn fault(line: &str) -> String {
-        let arguments = line.split_whitespace().map(OsString::from);
-        parse(arguments).err().unwrap_or_default()
-    }
-
-    #[test]
-    fn wrong_command_lines_are_refused() {
-        for (line, message) in [
-            ("--colour never", "there is no option '--colour'"),
-            ("-x", "there is no option '-x'"),
-            ("--all=1", "there is no option '--all=1'"),
-            ("--color sometimes", "--color is auto, always or never"),
-            ("--color", "--color takes a value"),
-            ("--width 80 --width=90", "--width is given twice"),
-            ("--width wide", "--width takes a decimal number, not 'wide'"),
-            ("--decode --map", "--decode and --map do not go together"),
-            ("--decode", "--decode takes one or more words"),
-            (
-                "--decode --svg a.svg C0000000",
-                "--svg goes only with --map",
-            ),
-            ("--level 2 kernel.txt", "--level goes only with --decode"),
-            (
-                "--map kernel.txt",
-                "--map takes no file, but 'kernel.txt' is given",
-            ),
-            ("a b", "one file is enough; 'b' is more"),
-        ] {
-            assert_eq!(fault(line), message, "{line}");
-        }
-        assert!(fault("--decode C080").ends_with("'C080' has 4"));
-        assert!(fault("--map --vector-bytes 48").starts_with("'48' is no vector length"));
-    }
-
-    #[test]
-    fn right_command_lines_are_understood() {
-        for line in [
-            "",
-            "-",
-            "-- -odd-name",
-            "--all kernel.txt --color=never",
-            "--decode --level 1 C0000000 c0000010",
-            "--map --vector-bytes 256 --svg map.svg",
-            "--help anything",
-        ] {
-            assert_eq!(fault(line), "", "{line}");
-        }
-    }
-}
+mod tests;

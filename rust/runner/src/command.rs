@@ -1,9 +1,10 @@
 //! What the program does, and its exit status.
 
-use crate::arguments::{self, Command, Task};
+use crate::arguments::{self, Command, Sheet, Task};
 use crate::input::Source;
 use crate::paint::{Paint, View};
 use crate::script::{self, Script};
+use crate::take::Taking;
 use crate::{decoding, map, map_svg, run};
 use std::ffi::{OsStr, OsString};
 use std::fs;
@@ -62,8 +63,25 @@ fn perform(command: Command) -> Result<(), Failure> {
                 decoding::print(&mut out, word, level, view.paint)?;
             }
         }
-        Task::Map { vector_bytes } => map::print(&mut out, vector_bytes, view.paint)?,
-        Task::Drawing { vector_bytes, file } => draw(&mut out, vector_bytes, &file)?,
+        Task::Map { sheet } => show(
+            &mut out,
+            &sheet,
+            |out, vector_bytes| map::print(out, vector_bytes, view.paint),
+            map_svg::svg,
+        )?,
+        Task::Take {
+            element_bytes,
+            held,
+            sheet,
+        } => {
+            let taking = Taking::ask(element_bytes, held);
+            show(
+                &mut out,
+                &sheet,
+                |out, vector_bytes| taking.print(out, vector_bytes, view.paint),
+                |vector_bytes| taking.svg(vector_bytes),
+            )?
+        }
     }
     Ok(out.flush()?)
 }
@@ -74,8 +92,20 @@ fn script_of(source: &Source) -> Result<Script, Failure> {
         .map_err(|fault| Failure::Input(fault.in_file(&source.name())))
 }
 
-fn draw(out: &mut impl Write, vector_bytes: usize, file: &OsStr) -> Result<(), Failure> {
-    let svg = map_svg::svg(vector_bytes);
+/// Prints a table of the array, or writes a drawing of it where that is wanted.
+fn show<W: Write>(
+    out: &mut W,
+    sheet: &Sheet,
+    print: impl Fn(&mut W, usize) -> io::Result<()>,
+    svg: impl Fn(usize) -> String,
+) -> Result<(), Failure> {
+    match &sheet.drawing {
+        None => Ok(print(out, sheet.vector_bytes)?),
+        Some(file) => save(out, &svg(sheet.vector_bytes), file),
+    }
+}
+
+fn save(out: &mut impl Write, svg: &str, file: &OsStr) -> Result<(), Failure> {
     if file == "-" {
         return Ok(out.write_all(svg.as_bytes())?);
     }

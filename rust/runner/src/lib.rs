@@ -1,7 +1,7 @@
 //! Runs kernels of instruction words on the proved move unit, and shows what each word is, what the
-//! unit answers and which bytes it changed.
+//! unit answers and which bytes it changed; or which tile the unit gives beside those that are held.
 //!
-//! The unit alone decodes and executes; what is here reads scripts and draws. Nothing is read or
+//! The unit alone decodes, executes and finds tiles; what is here reads scripts and draws. Nothing is read or
 //! printed in assembler's words: an instruction is a word of eight hexadecimal digits, a register a
 //! number, a tile its element size and its number.
 
@@ -12,6 +12,7 @@ mod arguments;
 pub mod command;
 mod decoding;
 mod digits;
+mod drawing;
 mod grid;
 mod input;
 mod kind;
@@ -22,6 +23,7 @@ mod paint;
 mod report;
 mod run;
 mod script;
+mod take;
 mod taken;
 mod tile;
 mod wording;

@@ -1,10 +1,9 @@
 //! How the tiles of each element size share the array, as a table.
 
-use crate::paint::{Paint, Style};
+use crate::paint::{terminal_colour, Paint, Style};
 use crate::tile::{Tile, ELEMENT_BYTES};
 use std::io::{self, Write};
 
-/// Prints a row for each vector of the array and a column for each element size.
 pub fn print(out: &mut impl Write, vector_bytes: usize, paint: Paint) -> io::Result<()> {
     for line in lines(vector_bytes, paint) {
         writeln!(out, "{line}")?;
@@ -17,16 +16,31 @@ pub fn title(vector_bytes: usize) -> String {
 }
 
 fn lines(vector_bytes: usize, paint: Paint) -> Vec<String> {
-    let sizes = ELEMENT_BYTES.map(|size| format!("{:^12}", format!("{size}-byte")));
     let mut lines = vec![
         paint.text(Style::Heading, &title(vector_bytes)),
         String::new(),
+    ];
+    lines.extend(table(vector_bytes, " tile slice ", |tile, vector| {
+        cell(tile, vector, paint)
+    }));
+    lines
+}
+
+/// A table with a row for each vector of the array and a column for each element size. Cells are 12
+/// columns wide, and so is the caption that stands over each column of them.
+pub fn table(
+    vector_bytes: usize,
+    caption: &str,
+    cell: impl Fn(Tile, usize) -> String,
+) -> Vec<String> {
+    let sizes = ELEMENT_BYTES.map(|size| format!("{:^12}", format!("{size}-byte")));
+    let mut lines = vec![
         line("array ", sizes),
-        line("vector", ELEMENT_BYTES.map(|_| " tile slice ".to_string())),
+        line("vector", ELEMENT_BYTES.map(|_| caption.to_string())),
         format!("-------{}", "+------------".repeat(ELEMENT_BYTES.len())),
     ];
     lines.extend((0..vector_bytes).map(|vector| {
-        let cell = |size| cell(Tile::holding(vector, size, vector_bytes), vector, paint);
+        let cell = |size| cell(Tile::holding(vector, size, vector_bytes), vector);
         line(&format!("{vector:>6}"), ELEMENT_BYTES.map(cell))
     }));
     lines
@@ -67,17 +81,6 @@ fn wheel(turn: f64) -> [u8; 3] {
     })
 }
 
-/// The nearest of the 216 colours that a terminal of 256 has as a cube.
-fn terminal_colour(rgb: [u8; 3]) -> u8 {
-    let step = |part: u8| match part {
-        0..48 => 0,
-        48..115 => 1,
-        _ => (part - 35) / 40,
-    };
-    let [red, green, blue] = rgb.map(step);
-    16 + 36 * red + 6 * green + blue
-}
-
 #[cfg(test)]
 mod tests {
     use super::*;
@@ -104,11 +107,5 @@ mod tests {
             colours.dedup();
             assert_eq!(colours.len(), element_bytes);
         }
-    }
-
-    #[test]
-    fn terminal_colours_are_in_the_cube() {
-        assert_eq!(terminal_colour([0, 0, 0]), 16);
-        assert_eq!(terminal_colour([255, 255, 255]), 231);
     }
 }

@@ -64,6 +64,23 @@ impl Paint {
     }
 }
 
+/// The nearest of the 216 colours that a terminal of 256 has as a cube; a colour is red, green and
+/// blue.
+pub fn terminal_colour(rgb: [u8; 3]) -> u8 {
+    let step = |part: u8| match part {
+        0..48 => 0,
+        48..115 => 1,
+        _ => (part - 35) / 40,
+    };
+    let [red, green, blue] = rgb.map(step);
+    16 + 36 * red + 6 * green + blue
+}
+
+/// A colour as drawings have it.
+pub fn web_colour([red, green, blue]: [u8; 3]) -> String {
+    format!("#{red:02x}{green:02x}{blue:02x}")
+}
+
 /// How much to show, and how.
 pub struct View {
     pub paint: Paint,
@@ -71,4 +88,15 @@ pub struct View {
     pub width: usize,
     /// Whether to show grids whole.
     pub all: bool,
+}
+
+#[cfg(test)]
+mod tests {
+    use super::*;
+
+    #[test]
+    fn terminal_colours_are_in_the_cube() {
+        assert_eq!(terminal_colour([0, 0, 0]), 16);
+        assert_eq!(terminal_colour([255, 255, 255]), 231);
+    }
 }

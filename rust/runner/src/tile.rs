@@ -1,5 +1,7 @@
 //! Where the tiles lie in the array.
 
+use std::fmt::Display;
+
 /// The sizes of elements, in bytes. There are as many tiles of a size as it has bytes.
 pub const ELEMENT_BYTES: [usize; 5] = [1, 2, 4, 8, 16];
 
@@ -21,6 +23,21 @@ impl Tile {
         }
     }
 
+    /// The tile that two numbers name, if there is one.
+    pub fn existing(named: sme_move::Tile, vector_bytes: usize) -> Option<Tile> {
+        let mut sizes = ELEMENT_BYTES.into_iter();
+        let element_bytes = sizes.find(|&size| size as u64 == named.element_bytes)?;
+        let number = (0..element_bytes).find(|&number| number as u64 == named.number)?;
+        Some(Tile::holding(number, element_bytes, vector_bytes))
+    }
+
+    /// Whether a vector of the array belongs to both. A tile of the larger size lies in one tile of
+    /// the smaller.
+    pub fn shares(self, other: Tile) -> bool {
+        let smaller = self.element_bytes.min(other.element_bytes);
+        self.number % smaller == other.number % smaller
+    }
+
     /// How many slices it has either way, which is also how many elements a slice has.
     pub fn slices(self) -> usize {
         self.vector_bytes / self.element_bytes
@@ -32,11 +49,13 @@ impl Tile {
     }
 
     pub fn name(self) -> String {
-        format!(
-            "tile {} of {}-byte elements",
-            self.number, self.element_bytes
-        )
+        name(self.element_bytes, self.number)
     }
+}
+
+/// What a tile with these numbers is called, also where there is none.
+pub fn name(element_bytes: impl Display, number: impl Display) -> String {
+    format!("tile {number} of {element_bytes}-byte elements")
 }
 
 #[cfg(test)]
@@ -61,6 +80,41 @@ mod tests {
                 }
                 assert!(seen.into_iter().all(|seen| seen));
             }
+        }
+    }
+
+    /// Every tile on vectors of 32 bytes.
+    fn tiles() -> Vec<Tile> {
+        let of_size = |size| (0..size).map(move |vector| Tile::holding(vector, size, 32));
+        ELEMENT_BYTES.into_iter().flat_map(of_size).collect()
+    }
+
+    #[test]
+    fn tiles_share_bytes_where_they_have_a_vector_in_common() {
+        let vectors = |tile: Tile| (0..tile.slices()).map(move |slice| tile.vector(slice));
+        for one in tiles() {
+            for other in tiles() {
+                let common = vectors(one).any(|vector| vectors(other).any(|v| v == vector));
+                assert_eq!(one.shares(other), common, "{one:?} {other:?}");
+            }
+        }
+    }
+
+    #[test]
+    fn two_numbers_name_a_tile_or_none() {
+        let existing = |element_bytes, number| {
+            let named = sme_move::Tile {
+                element_bytes,
+                number,
+            };
+            Tile::existing(named, 32)
+        };
+        for tile in tiles() {
+            let found = existing(tile.element_bytes as u64, tile.number as u64);
+            assert_eq!(found, Some(tile));
+        }
+        for (element_bytes, number) in [(0, 0), (3, 0), (32, 0), (257, 0), (4, 4), (1, 1 << 32)] {
+            assert_eq!(existing(element_bytes, number), None);
         }
     }
 }

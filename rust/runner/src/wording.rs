@@ -96,11 +96,15 @@ pub fn fields(fields: Fields) -> Vec<String> {
 /// An answer's number and what it means.
 pub fn answer(answer: Result<(), Refusal>) -> String {
     match answer {
-        Ok(()) => "0: done".to_string(),
+        Ok(()) => answered(0, "done"),
         // The runner's registers always have the right lengths, so this is all that is left of 2.
-        Err(Refusal::BadLengths) => "2: memory ends above address FFFFFFFFFFFFFFFF".to_string(),
-        Err(refusal) => format!("{}: {refusal}", refusal.number()),
+        Err(Refusal::BadLengths) => answered(2, "memory ends above address FFFFFFFFFFFFFFFF"),
+        Err(refusal) => answered(refusal.number(), &refusal.to_string()),
     }
+}
+
+pub fn answered(number: u32, meaning: &str) -> String {
+    format!("{number}: {meaning}")
 }
 
 /// Numbers in order as ranges: `0 to 3, 5 and 7`; of many ranges only the first.

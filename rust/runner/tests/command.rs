@@ -80,6 +80,9 @@ fn colour_is_for_terminals_unless_asked_for() {
     assert!(coloured(&["-", "--color", "always"]));
     assert!(!coloured(&["-", "--color=never"]));
     assert!(run(&["--map", "--color", "always"]).stdout.contains(&0x1B));
+    assert!(run(&["--take", "1", "--color", "always"])
+        .stdout
+        .contains(&0x1B));
 }
 
 #[test]
@@ -123,6 +126,38 @@ fn output_that_cannot_be_written_is_said() {
     let output = run(&["--map", "--svg", "/dev/full"]);
     assert_eq!(output.status.code(), Some(1));
     assert!(output.stderr.starts_with(b"/dev/full: cannot be written: "));
+}
+
+#[test]
+fn every_answer_to_a_request_for_a_tile_is_printed() {
+    // Seventeen tiles: the unit refuses them, not the command line.
+    let many = ["16:0"; 17];
+    for (bytes, held, expected) in [
+        ("2", &["4:0"][..], "0: done"),
+        ("12", &[], "8: no element has 12 bytes"),
+        ("12", &many, "8: no element has 12 bytes"),
+        (
+            "2",
+            &["4:0", "16:15"],
+            "13: no tile of 2-byte elements is free",
+        ),
+        (
+            "2",
+            &["4:0", "4:4"],
+            "16: a held tile does not exist, or two share bytes",
+        ),
+        (
+            "2",
+            &many,
+            "16: a held tile does not exist, or two share bytes",
+        ),
+    ] {
+        let output = run(&[&["--take", bytes], held].concat());
+        assert_eq!(output.status.code(), Some(0));
+        let text = String::from_utf8(output.stdout).expect("the output is text");
+        let line = text.lines().find(|line| line.starts_with("  answer"));
+        assert_eq!(line, Some(format!("  answer   {expected}").as_str()));
+    }
 }
 
 #[test]

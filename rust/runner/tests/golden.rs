@@ -1,6 +1,7 @@
 //! What the program prints, byte for byte. After an intended change:
 //! `runner > tests/example.stdout`, `runner tests/scripts/NAME.txt > tests/scripts/NAME.stdout`,
-//! `runner --map --svg ../../docs/za-map.svg`.
+//! `runner --map --svg ../../docs/za-map.svg`, `runner --take 4 2:0 8:3 > tests/take.stdout`,
+//! `runner --take 4 2:0 8:3 --svg ../../docs/one-more-tile.svg`.
 
 mod common;
 
@@ -58,6 +59,19 @@ fn the_stored_drawing_is_what_the_program_draws() {
     );
 }
 
+/// A command that takes a tile, whose output is stored.
+const TAKE: [&str; 4] = ["--take", "4", "2:0", "8:3"];
+
+#[test]
+fn a_taken_tile_prints_what_is_stored() {
+    assert_eq!(output(&TAKE), read("tests/take.stdout"));
+    let file = concat!(env!("CARGO_TARGET_TMPDIR"), "/take.svg");
+    assert_eq!(output(&[&TAKE[..], &["--svg", file]].concat()), "");
+    let drawn = std::fs::read_to_string(file).expect("the file is written");
+    assert_eq!(drawn, read("../../docs/one-more-tile.svg"));
+    assert_eq!(output(&[&TAKE[..], &["--svg", "-"]].concat()), drawn);
+}
+
 /// The example's words are those of the operations that its comments name.
 #[test]
 fn the_example_moves_rows_in_and_columns_out() {
@@ -111,6 +125,8 @@ fn nothing_is_said_in_assembler() {
         "--decode", "C0000000", "C0020200", "C0064CFC", "C0060A6A", "E03F03E0", "C0025569",
         "C006086A", "C0064EFC", "E0E4EBEB", "E08CC7AE",
     ]));
+    texts.push(output(&TAKE));
+    texts.push(output(&["--take", "16", "8:3", "4:3", "257:0"]));
     texts.extend(SCRIPTS.map(|name| read(&format!("tests/scripts/{name}.stdout"))));
     texts.extend(SCRIPTS.map(|name| read(&format!("tests/scripts/{name}.txt"))));
     texts.push(read("example.txt"));

@@ -1,6 +1,7 @@
-//! An independent second program for document 01 with requests 1 and 2:
-//! decodes, encodes and executes the words of nine SME instructions, and
-//! prints the inputs on which it is compared with the first.
+//! An independent second program for document 01 with requests 1, 2 and 9:
+//! decodes, encodes and executes the words of nine SME instructions, takes
+//! and gives up tiles, and prints the inputs on which it is compared with
+//! the first.
 
 #![forbid(unsafe_code)]
 
@@ -10,6 +11,7 @@ pub mod decode;
 pub mod encode;
 pub mod execute;
 pub mod flat;
+pub mod held;
 pub mod inputs;
 pub mod lines;
 pub mod refusal;

@@ -1,7 +1,8 @@
-//! The refusal numbers of document 01, section 6.
+//! The refusal numbers of document 01, section 6, and those that request 9
+//! added.
 
-/// Why a word was not decoded or not executed, or eleven numbers were not
-/// encoded.
+/// Why a word was not decoded or not executed, eleven numbers were not
+/// encoded, or a tile was not taken or not given up.
 ///
 /// Answer 0 (done) is not here: it is the `Ok` side of a result.
 #[derive(Clone, Copy, Debug, PartialEq, Eq)]
@@ -23,15 +24,21 @@ pub enum Refusal {
     StackPointer,
     /// 7: a byte of an active element is not in memory.
     Fault { address: u64 },
-    /// 8: encoding only, a field outside its range.
+    /// 8: in encoding, a field outside its range; in taking a tile, an asked
+    /// size that is not one of the five.
     Field,
+    /// 13: no tile of the asked size is free.
+    NoFreeTile,
+    /// 16: a held tile does not exist, two held tiles share a byte, or the
+    /// tile to be given up is not held.
+    Held,
     /// No number of the table: it stands for the trap of a deliberate
     /// mistake, and nothing else gives it.
     Trap,
 }
 
 impl Refusal {
-    /// The number that section 6 gives to this refusal.
+    /// The number that section 6 or request 9 gives to this refusal.
     pub fn number(self) -> u8 {
         match self {
             Refusal::Level | Refusal::VectorLength => 1,
@@ -42,6 +49,8 @@ impl Refusal {
             Refusal::StackPointer => 6,
             Refusal::Fault { .. } => 7,
             Refusal::Field => 8,
+            Refusal::NoFreeTile => 13,
+            Refusal::Held => 16,
             Refusal::Trap => u8::MAX,
         }
     }

@@ -3,7 +3,7 @@
 use std::error::Error;
 use std::fmt;
 
-/// Why a call was refused, in the order of checking: the lowest that applies is given.
+/// Why a call was refused. Of several that apply the lowest is given, but for tiles 16 goes before 13.
 #[derive(Clone, Copy, Debug, PartialEq, Eq, Hash)]
 #[non_exhaustive]
 pub enum Refusal {
@@ -22,8 +22,12 @@ pub enum Refusal {
     /// 7: a byte of an active element is not in memory; the address of the first such byte of the lowest such
     /// element.
     OutsideMemory { address: u64 },
-    /// 8: no word encodes this operation.
+    /// 8: no word encodes this operation, or no element has the bytes that were asked for.
     OutOfRange,
+    /// 13: every tile of the asked size shares a byte with a held one.
+    NoFreeTile,
+    /// 16: a held tile does not exist, two of them share a byte, or the tile to give up is not held.
+    BadHeld,
 }
 
 impl Refusal {
@@ -38,6 +42,8 @@ impl Refusal {
             Refusal::StackMisaligned => 6,
             Refusal::OutsideMemory { .. } => 7,
             Refusal::OutOfRange => 8,
+            Refusal::NoFreeTile => 13,
+            Refusal::BadHeld => 16,
         }
     }
 
@@ -62,6 +68,8 @@ impl Refusal {
             6 => Refusal::StackMisaligned,
             7 => Refusal::OutsideMemory { address },
             8 => Refusal::OutOfRange,
+            13 => Refusal::NoFreeTile,
+            16 => Refusal::BadHeld,
             _ => panic!("the archive gave answer {number}, which does not exist"),
         })
     }
@@ -79,7 +87,17 @@ impl fmt::Display for Refusal {
             Refusal::OutsideMemory { address } => {
                 write!(f, "address {address:016X} is not in memory")
             }
-            Refusal::OutOfRange => write!(f, "no word encodes this operation"),
+            Refusal::OutOfRange => {
+                write!(
+                    f,
+                    "no word encodes this operation, or no element has so many bytes"
+                )
+            }
+            Refusal::NoFreeTile => write!(f, "no tile of this size is free"),
+            Refusal::BadHeld => write!(
+                f,
+                "a held tile does not exist, two share a byte, or the tile is not held"
+            ),
         }
     }
 }

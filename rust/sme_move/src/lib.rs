@@ -27,6 +27,7 @@
 mod answer;
 mod execute;
 mod fields;
+mod held;
 pub mod numbers;
 mod operation;
 mod settings;
@@ -35,6 +36,7 @@ mod words;
 pub use answer::Refusal;
 pub use execute::{execute, Buffers, State};
 pub use fields::Fields;
+pub use held::{HeldTiles, Tile};
 pub use operation::{Direction, ElementSize, Operation, RegisterCount};
 pub use settings::{Lengths, Settings};
 pub use words::{decode, decode_fields, encode, encode_fields};

@@ -31,6 +31,20 @@ extern "C" {
     fn sme_encode(fields: *const [u8; 11], word: *mut u32) -> u32;
     fn sme_check_settings(vector_bytes: u64, level: u64) -> u32;
     fn sme_lengths(vector_bytes: u64, lengths: *mut [u64; 4]) -> u32;
+    fn sme_take_tile(
+        tiles: *mut u64,
+        tiles_len: usize,
+        count: *mut usize,
+        element_bytes: u64,
+        tile: *mut u64,
+    ) -> u32;
+    fn sme_give_up_tile(
+        tiles: *mut u64,
+        tiles_len: usize,
+        count: *mut usize,
+        element_bytes: u64,
+        tile: u64,
+    ) -> u32;
 }
 
 /// Executes a word: the answer's number, and the address that 7 carries, 0 with every other.
@@ -91,4 +105,28 @@ pub fn check_settings(vector_bytes: u64, level: u64) -> u32 {
 pub fn lengths(vector_bytes: u64, lengths: &mut [u64; 4]) -> u32 {
     // SAFETY: `lengths` is a writable place of four numbers that lives through the call.
     unsafe { sme_lengths(vector_bytes, lengths) }
+}
+
+/// Takes a tile: the answer's number, and the tile's, 0 with a refusal. Two numbers of `tiles` are a held tile, of
+/// which there are `count`; a refusal leaves both as they were.
+pub fn take_tile(tiles: &mut [u64], count: &mut usize, element_bytes: u64) -> (u32, u64) {
+    let mut tile = UNWRITTEN;
+    // SAFETY: the pointers come from a slice, which goes with its length, and from two places of their types. All
+    // live through the call, are writable and overlap nothing.
+    let number = unsafe {
+        sme_take_tile(
+            tiles.as_mut_ptr(),
+            tiles.len(),
+            count,
+            element_bytes,
+            &mut tile,
+        )
+    };
+    (number, tile)
+}
+
+/// Gives up a tile: 0 with `tiles` and `count` those of the others, or 16 with both as they were.
+pub fn give_up_tile(tiles: &mut [u64], count: &mut usize, element_bytes: u64, tile: u64) -> u32 {
+    // SAFETY: as above.
+    unsafe { sme_give_up_tile(tiles.as_mut_ptr(), tiles.len(), count, element_bytes, tile) }
 }

@@ -5,7 +5,6 @@ use crate::arguments::SEED;
 use crate::command::{unknown, Options};
 use std::ffi::OsString;
 use std::fmt::{self, Display, Formatter};
-use std::thread;
 
 /// A part of the comparison.
 #[derive(Clone, Copy, Debug, PartialEq, Eq)]
@@ -88,9 +87,7 @@ impl Arguments {
                 seed: SEED,
                 count: 10_000_000,
             },
-            workers: Workers {
-                threads: thread::available_parallelism().map_or(1, usize::from),
-            },
+            workers: Workers::on_all_cores(),
         }
     }
 

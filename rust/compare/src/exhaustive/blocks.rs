@@ -35,6 +35,13 @@ struct Brought<T> {
 }
 
 impl Workers {
+    /// As many threads as there are cores.
+    pub fn on_all_cores() -> Workers {
+        Workers {
+            threads: thread::available_parallelism().map_or(1, usize::from),
+        }
+    }
+
     /// Does the work of all blocks, `name` being what progress is told of.
     pub fn run<T: Sum>(
         &self,

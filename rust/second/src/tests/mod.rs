@@ -1,6 +1,6 @@
 //! Unit tests: words and their lists and lines, the worked examples of
-//! document 01 and of the added words, the order of the answers, and the
-//! deliberate mistakes.
+//! document 01 and of the added words, the order of the answers, tiles taken
+//! and given up, and the deliberate mistakes.
 
 mod access_mistakes;
 mod accesses;
@@ -8,6 +8,9 @@ mod added;
 mod addresses;
 mod answers;
 mod examples;
+mod held;
+mod held_mistakes;
+mod held_sets;
 mod inputs;
 mod lines;
 mod machine;

@@ -80,7 +80,8 @@ fn neighbours_of_example_eleven_encode() {
     assert_eq!(encode(&Flat::from_bytes(wide_store)), Ok(0xE1E0_000F));
 }
 
-/// Section 6: the numbers of the refusals; only 7 carries an address.
+/// Section 6 and request 9: the numbers of the refusals; only 7 carries an
+/// address.
 #[test]
 fn refusal_numbers() {
     let numbered = [
@@ -93,6 +94,8 @@ fn refusal_numbers() {
         (Refusal::StackPointer, 6),
         (Refusal::Fault { address: 9 }, 7),
         (Refusal::Field, 8),
+        (Refusal::NoFreeTile, 13),
+        (Refusal::Held, 16),
     ];
     for (refusal, number) in numbered {
         assert_eq!(refusal.number(), number);

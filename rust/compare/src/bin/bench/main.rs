@@ -1,13 +1,15 @@
 //! Times the archive's function beside the second program, a plain copy of
 //! as many bytes (and clearing as many, for what zeroes), and a plain strided
 //! loop. The goal, where there is one, is for the last ratio of the line, and
-//! a goal that is missed is told.
+//! a goal that is missed is told. Taking tiles and giving them up has a table
+//! and a goal of its own.
 
 #![forbid(unsafe_code)]
 
 mod machine;
 mod plain;
 mod task;
+mod tiles;
 mod timing;
 
 use machine::Machine;
@@ -32,6 +34,10 @@ fn main() -> ExitCode {
             let contest = time(&task, &mut machine);
             goals.add(print_line(&task, vector_bytes, &contest));
         }
+    }
+    if let Err(message) = tiles::time_all(&mut goals) {
+        eprintln!("bench: {message}");
+        return ExitCode::FAILURE;
     }
     println!("{} goals met, {} missed", goals.met, goals.missed);
     ExitCode::SUCCESS

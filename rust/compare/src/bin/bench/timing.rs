@@ -21,7 +21,18 @@ impl Times {
         if self.calls == 0 {
             self.calls = calls_in_a_batch(&mut call);
         }
-        let each = run(self.calls, &mut call).as_secs_f64() * 1e9 / f64::from(self.calls);
+        self.keep(run(self.calls, &mut call), self.calls);
+    }
+
+    /// Runs a batch that makes so many calls itself.
+    pub fn pass(&mut self, calls: u32, pass: impl FnOnce()) {
+        let start = Instant::now();
+        pass();
+        self.keep(start.elapsed(), calls);
+    }
+
+    fn keep(&mut self, batch: Duration, calls: u32) {
+        let each = batch.as_secs_f64() * 1e9 / f64::from(calls);
         self.least = Some(self.least.map_or(each, |least| least.min(each)));
     }
 

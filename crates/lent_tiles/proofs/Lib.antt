@@ -1,0 +1,2 @@
+mod LentLaws
+mod Claims
