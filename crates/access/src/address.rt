@@ -2,11 +2,11 @@
 ghost use mathlib.Core.Path.{_≡_};
 ghost use Prim.Native.Nat.{ℕ, _+_, _*_, _%_, _^_, _<_};
 ghost use lib.ListN.{length};
-ghost use Rattle.encoding.specs.Flat.{bytesOf};
-ghost use Rattle.execution.specs.Access.{offsetOf, addressOf, inMemory};
+ghost use Rattle.tiles.specs.Element.{bytesOf};
+ghost use Rattle.semantics.specs.Access.{offsetOf, addressOf, inMemory};
 ghost use Rattle.access.specs.Promise.{insideAt};
-use encoding::ElementSize;
 use encoding::SliceAccess;
+use tiles::ElementSize;
 
 // What the offset register adds, before scaling: register 31 reads as zero.
 fn offset_or_zero(x: &[u64], rm: u8) -> u64
@@ -38,7 +38,8 @@ pub(crate) fn first_address(x: &[u64], operation: SliceAccess) -> u64
     requires { ⌜ (operation .rn < length (now x)) × (operation .rm < length (now x)) ⌝ }
     ensures { λ r. ⌜ ((k : ℕ) → (r + k) % 2 ^ 64 ≡ addressOf (now (x .entry)) operation k) ⌝ }
 {
-    let size = operation.size;
+    let slice = operation.slice;
+    let size = slice.size;
     let base = x[operation.rn as usize];
     let offset = offset_or_zero(x, operation.rm);
     std::num::wrapping_add_u64(base, scaled(offset, size))

@@ -1,12 +1,9 @@
-// Loads and stores of a tile slice, and the slice or vector number that an index register and an offset name.
+// Loads and stores of a tile slice.
 mod address;
 mod from_memory;
 mod predicate;
 mod reach;
-mod select;
 mod to_memory;
 
 pub use from_memory::load;
-pub use select::selected;
-pub use select::slice_number;
 pub use to_memory::store;

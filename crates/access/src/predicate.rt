@@ -3,9 +3,9 @@ ghost use mathlib.Core.Path.{_≡_};
 ghost use Prim.Native.Nat.{_+_, _*_, _/_, _<_, _≤_};
 ghost use lib.ListN.{length};
 ghost use Rattle.tiles.specs.Predicate.{active};
-ghost use Rattle.tiles.specs.Least.{least, isSome};
+ghost use Rattle.general.specs.Least.{least, isSome};
 ghost use Rattle.access.specs.Promise.{elementBits, allSet};
-use encoding::ElementSize;
+use tiles::ElementSize;
 
 // Whether byte k of a vector is of an active element of m bytes, under the governing predicate that
 // starts at index pbase of p.
@@ -32,8 +32,8 @@ pub(crate) fn any_active(p: &[u8], pbase: usize, m: usize, n: usize) -> bool
     false
 }
 
-// The bits of a predicate byte that elements of a size go by. Those of 16 bytes go by every other byte only; they have
-// the bit in each, so that one test serves all sizes.
+// The bits of a predicate byte that elements of a size go by. An element of 16 bytes has two predicate bytes and goes by the
+// first; here it has the bit in both, so that one test serves all sizes.
 fn element_bits(size: ElementSize) -> u8
     ensures { λ r. ⌜ r ≡ elementBits size ⌝ }
 {

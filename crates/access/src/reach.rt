@@ -6,25 +6,28 @@ ghost use Prim.Native.Nat.{ℕ, _+_, _*_, _%_, _^_, _<_, _≤_};
 ghost use lib.Dec.{eqb};
 ghost use lib.ListN.{length};
 ghost use Rattle.tiles.specs.Predicate.{active};
-ghost use Rattle.tiles.specs.Least.{least, isSome};
-ghost use Rattle.execution.specs.Access.{inMemory};
-ghost use Rattle.access.specs.Promise.{AccessReady, Reaches};
+ghost use Rattle.general.specs.Least.{least, isSome};
+ghost use Rattle.semantics.specs.Access.{inMemory};
+ghost use Rattle.settings.specs.Settings.{lengthsOf};
+ghost use Rattle.encoding.specs.Range.{AccessInRange};
+ghost use Rattle.semantics.specs.Steps.{Sized};
+ghost use Rattle.access.specs.Promise.{Reaches};
 use crate::address::first_address;
 use crate::address::is_in_memory;
 use crate::address::is_inside;
 use crate::predicate::any_active;
 use crate::predicate::is_active;
 use encoding::SliceAccess;
-use execution::Executed;
+use semantics::Refusal;
 use settings::Settings;
 
-// Where a load or store goes, or the answer that refuses it.
+// Where a load or store goes, or why it is refused.
 pub enum Reach {
     // The whole vector's bytes are in memory, from this index on.
     Whole(usize),
     // Every active byte is in memory, but not the whole vector; byte 0 has this address.
     Active(u64),
-    Refused(Executed),
+    Refused(Refusal),
 }
 
 // Whether the base is the stack pointer and misaligned, and an element is active.
@@ -77,15 +80,16 @@ pub(crate) fn find_reach(
     p: &[u8],
     memory_bytes: usize,
 ) -> Reach
-    requires { ⌜ AccessReady settings (length (now x)) (length (now p)) «memory_bytes» operation ⌝ }
+    requires { ⌜ Sized settings (length (now x)) (lengthsOf settings .z) (length (now p)) (lengthsOf settings .za) «memory_bytes» × AccessInRange operation ⌝ }
     ensures { λ r. ⌜ Reaches settings (now (x .entry)) (now (p .entry)) «memory_bytes» operation r ⌝ }
 {
-    let size = operation.size;
+    let slice = operation.slice;
+    let size = slice.size;
     let m = size.bytes() as usize;
     let n = settings.vector_bytes as usize;
     let pbase = operation.pg as usize * (n / 8);
     if is_stack_bad(operation.rn, x[operation.rn as usize], p, pbase, m, n) {
-        return Reach::Refused(Executed::StackMisaligned);
+        return Reach::Refused(Refusal::StackMisaligned);
     }
     let start = first_address(x, operation);
     let a = settings.memory_address;
@@ -95,7 +99,7 @@ pub(crate) fn find_reach(
     let fault = first_fault(p, pbase, m, n, start, a, memory_bytes);
     if fault < n {
         let address = std::num::wrapping_add_u64(start, fault as u64);
-        return Reach::Refused(Executed::OutsideMemory(address));
+        return Reach::Refused(Refusal::OutsideMemory(address));
     }
     Reach::Active(start)
 }

@@ -3,28 +3,28 @@ ghost use mathlib.Core.Path.{_≡_};
 ghost use mathlib.Core.Bool.{true};
 ghost use Prim.Native.Nat.{ℕ, _+_, _*_, _-_, _/_, _%_, _^_, _<_, _≤_};
 ghost use lib.ListN.{length, getD};
-ghost use Rattle.settings.specs.Settings.{zaBytes};
-ghost use Rattle.encoding.specs.Flat.{bytesOf};
-ghost use Rattle.tiles.specs.Scatter.{scatter, from};
+ghost use Rattle.settings.specs.Settings.{lengthsOf, maxVectorBytes};
+ghost use Rattle.tiles.specs.Element.{bytesOf};
+ghost use Rattle.general.specs.Scatter.{scatter, onwards};
 ghost use Rattle.tiles.specs.Predicate.{active};
 ghost use Rattle.tiles.specs.Tile.{sliceAt};
 ghost use Rattle.slices.specs.Slice.{Placed};
-ghost use Rattle.execution.specs.Access.{inMemory};
-ghost use Rattle.execution.specs.Effect.{stored};
-ghost use Rattle.execution.specs.Execute.{strideOf};
-ghost use Rattle.access.specs.Promise.{AccessReady, Accesses};
+ghost use Rattle.semantics.specs.Access.{inMemory};
+ghost use Rattle.encoding.specs.Range.{AccessInRange};
+ghost use Rattle.semantics.specs.Steps.{Sized};
+ghost use Rattle.access.specs.Promise.{Stores};
 use crate::predicate::is_active;
 use crate::predicate::is_full;
 use crate::reach::Reach;
 use crate::reach::find_reach;
-use crate::select::slice_number;
-use encoding::Direction;
-use encoding::ElementSize;
 use encoding::SliceAccess;
-use execution::Executed;
+use semantics::Executed;
 use settings::Settings;
 use slices::copy_from_slice;
 use slices::merge_from_slice;
+use tiles::Direction;
+use tiles::ElementSize;
+use tiles::slice_number;
 
 // The index in za of byte k of a slice.
 fn slice_byte(
@@ -35,7 +35,7 @@ fn slice_byte(
     slice: usize,
     k: usize,
 ) -> usize
-    requires { ⌜ («vector_bytes» ≤ 256) × («vector_bytes» / m * m ≡ «vector_bytes») × (tile < m) × (slice < «vector_bytes» / m) × (k < «vector_bytes») ⌝ }
+    requires { ⌜ («vector_bytes» ≤ maxVectorBytes) × («vector_bytes» / m * m ≡ «vector_bytes») × (tile < m) × (slice < «vector_bytes» / m) × (k < «vector_bytes») ⌝ }
     ensures { λ r. ⌜ (r ≡ sliceAt «vector_bytes» m tile direction slice k) × (r < «vector_bytes» * «vector_bytes») ⌝ }
 {
     match direction {
@@ -59,7 +59,7 @@ fn write_active(
     direction: Direction,
     slice: usize,
 )
-    requires { ⌜ («vector_bytes» ≤ 256) × («vector_bytes» / m * m ≡ «vector_bytes») × (tile < m) × (slice < «vector_bytes» / m) ⌝ }
+    requires { ⌜ («vector_bytes» ≤ maxVectorBytes) × («vector_bytes» / m * m ≡ «vector_bytes») × (tile < m) × (slice < «vector_bytes» / m) ⌝ }
     requires { ⌜ (pbase * 8 + «vector_bytes» ≤ 8 * length (now p)) × (length (now za) ≡ «vector_bytes» * «vector_bytes») ⌝ }
     requires { ⌜ ((k : ℕ) → k < «vector_bytes» → active (now p) pbase m k ≡ true → inMemory «memory_address» (length (now memory)) ((start + k) % 2 ^ 64) ≡ true) ⌝ }
     ensures { λ _. ⌜ now (memory .exit) ≡ scatter (λ (k : ℕ). (start + k) % 2 ^ 64 - «memory_address») (active (now (p .entry)) pbase m) (λ (k : ℕ). getD (now (za .entry)) (sliceAt «vector_bytes» m tile direction slice k) 0) «vector_bytes» (now (memory .entry)) ⌝ }
@@ -90,7 +90,7 @@ fn write_whole(
 )
     requires { ⌜ Placed «vector_bytes» «vector_bytes» (bytesOf size) («vector_bytes» / bytesOf size) tile slice ⌝ }
     requires { ⌜ (pbase + «vector_bytes» / 8 ≤ length (now p)) × (length (now za) ≡ «vector_bytes» * «vector_bytes») × (at + «vector_bytes» ≤ length (now memory)) ⌝ }
-    ensures { λ _. ⌜ now (memory .exit) ≡ scatter (from at) (active (now (p .entry)) pbase (bytesOf size)) (λ (k : ℕ). getD (now (za .entry)) (sliceAt «vector_bytes» (bytesOf size) tile direction slice k) 0) «vector_bytes» (now (memory .entry)) ⌝ }
+    ensures { λ _. ⌜ now (memory .exit) ≡ scatter (onwards at) (active (now (p .entry)) pbase (bytesOf size)) (λ (k : ℕ). getD (now (za .entry)) (sliceAt «vector_bytes» (bytesOf size) tile direction slice k) 0) «vector_bytes» (now (memory .entry)) ⌝ }
 {
     let n = vector_bytes;
     if is_full(p, pbase, size, n) {
@@ -109,26 +109,39 @@ pub fn store(
     za: &[u8],
     memory: &mut [u8],
 ) -> Executed
-    requires { ⌜ AccessReady settings (length (now x)) (length (now p)) (length (now memory)) operation × (length (now za) ≡ zaBytes (settings .«vector_bytes»)) ⌝ }
-    ensures { λ r. ⌜ Accesses settings (now (x .entry)) (now (p .entry)) (length (now (memory .entry))) operation r (now (memory .entry)) (stored (strideOf settings) (settings .«vector_bytes») (now (x .entry)) (now (p .entry)) operation (settings .«memory_address») (now (za .entry)) (now (memory .entry))) (now (memory .exit)) ⌝ }
+    requires { ⌜ Sized settings (length (now x)) (lengthsOf settings .z) (length (now p)) (length (now za)) (length (now memory)) × AccessInRange operation ⌝ }
+    ensures { λ r. ⌜ Stores settings operation (now (x .entry)) (now (p .entry)) (now (za .entry)) (now (memory .entry)) r (now (memory .exit)) ⌝ }
 {
     let n = settings.vector_bytes as usize;
-    let size = operation.size;
-    let direction = operation.direction;
-    let tile = operation.zat as usize;
+    let slice = operation.slice;
+    let size = slice.size;
+    let direction = slice.direction;
+    let tile = slice.tile as usize;
     let pbase = operation.pg as usize * (n / 8);
-    let slice = slice_number(x, operation.rs, operation.imm, n, size);
+    let number = slice_number(x, slice, n);
     match find_reach(operation, settings, x, p, memory.len()) {
         Reach::Whole(at) => {
-            write_whole(memory, at, p, pbase, za, n, size, tile, direction, slice);
+            write_whole(memory, at, p, pbase, za, n, size, tile, direction, number);
             Executed::Done
         }
         Reach::Active(start) => {
             let m = size.bytes() as usize;
             let a = settings.memory_address;
-            write_active(memory, a, start, p, pbase, za, n, m, tile, direction, slice);
+            write_active(
+                memory,
+                a,
+                start,
+                p,
+                pbase,
+                za,
+                n,
+                m,
+                tile,
+                direction,
+                number,
+            );
             Executed::Done
         }
-        Reach::Refused(answer) => answer,
+        Reach::Refused(refusal) => Executed::Refused(refusal),
     }
 }

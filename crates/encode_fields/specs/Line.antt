@@ -32,13 +32,13 @@ unfoldable pub questionOf : List ℕ → Question
 questionOf l = cond (isLine l) (questionAs (parseOf (take 8 l)) (parseOf (take 8 (drop 8 l))) (parseOf (take 6 (drop 16 l)))) BadLine
 
 -- the last k bytes of n, the highest first
-abbrev pub bytesOf : ℕ → ℕ → List ℕ
-bytesOf zero n = []
-bytesOf (suc k) n = n / 256 ^ k % 256 ∷ bytesOf k n
+abbrev pub bytesIn : ℕ → ℕ → List ℕ
+bytesIn zero n = []
+bytesIn (suc k) n = n / 256 ^ k % 256 ∷ bytesIn k n
 
 -- the eleven numbers of a question
-abbrev pub numbersOf : ℕ → ℕ → ℕ → List ℕ
-numbersOf first second third = bytesOf 4 first ++ bytesOf 4 second ++ bytesOf 3 third
+abbrev pub numbersAsked : ℕ → ℕ → ℕ → List ℕ
+numbersAsked first second third = bytesIn 4 first ++ bytesIn 4 second ++ bytesIn 3 third
 
 -- the 22 digits again
 unfoldable pub questionText : ℕ → ℕ → ℕ → List ℕ
@@ -50,4 +50,4 @@ encodedText e = space ++ decimalOf (encodedAnswer e .number) ++ space ++ hexDigi
 
 -- the answer to a question
 unfoldable pub lineOf : ℕ → ℕ → ℕ → List ℕ
-lineOf first second third = questionText first second third ++ encodedText (encodeFlatOf (numbersOf first second third))
+lineOf first second third = questionText first second third ++ encodedText (encodeFlatOf (numbersAsked first second third))

@@ -2,7 +2,7 @@
 // word that they encode to. A line that is not of the form is refused, and ends the program.
 ghost use mathlib.Core.Path.{_≡_};
 ghost use Rattle.text.specs.Line.{Puts};
-ghost use Rattle.encode_fields.specs.Line.{questionOf, numbersOf, questionText, encodedText, lineOf};
+ghost use Rattle.encode_fields.specs.Line.{questionOf, numbersAsked, questionText, encodedText, lineOf};
 use encoding::Encoded;
 use libc::STDIN_FILENO;
 use libc::STDOUT_FILENO;
@@ -43,7 +43,7 @@ fn question_in(line: &[u8]) -> Question
 
 // The eleven numbers of a question: four bytes, four and three.
 fn numbers_of(first: u32, second: u32, third: u32) -> [u8; 11]
-    ensures { λ r. ⌜ r ≡ numbersOf first second third ⌝ }
+    ensures { λ r. ⌜ r ≡ numbersAsked first second third ⌝ }
 {
     [
         (first / 16777216 % 256) as u8,

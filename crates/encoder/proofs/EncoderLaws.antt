@@ -2,18 +2,23 @@
 -- element size at once. What a row asks of an operation is computed from the table.
 -- Assumes nothing.
 use Prim.Native.Nat.{ℕ, _+_, _*_, _-_, _%_, _≤_, _<_}
-use mathlib.Core.Path.{_≡_, refl}
-use mathlib.Core.Bool.{Bool, true, false}
+use mathlib.Core.Path.{_≡_, refl, sym, _∙_}
+use mathlib.Core.Bool.{Bool, true, false, _&&_, true≢false}
 use native.Mathlib.Omega.{arith}
-use Rattle.encoding.specs.Flat.{directionNumber, registersOf, bytesOf}
+use lib.Dec.{leb, ltb}
+use borrow.Author.Tests.{leb-true, ltb-true, le-leb, lt-ltb}
+use Rattle.general.proofs.BoolLaws.{and-parts, refute}
+use Rattle.tiles.specs.Direction.{directionNumber}
+use Rattle.encoding.specs.Flat.{registersOf}
+use Rattle.tiles.specs.Element.{bytesOf}
 use Rattle.encoding.specs.Table.{table}
 use Rattle.encoding.specs.Codec.{Encodes, rowOfNumbers}
 use Rattle.encoding.specs.Steps.{sizeBits, fromTileMove, fromTileBits, arrayMove, arrayBits, accessMove, accessBits}
-use Rattle.encoder.specs.Steps.{offsetCount}
-use Rattle.encoding.specs.declared.operation.ElementSize.{ElementSize}
-use Rattle.encoding.specs.declared.operation.ElementSize.the-variants.{Bits8, Bits16, Bits32, Bits64, Bits128}
-use Rattle.encoding.specs.declared.operation.Direction.{Direction}
-use Rattle.encoding.specs.declared.operation.Direction.the-variants.{Horizontal, Vertical}
+use Rattle.encoder.specs.Steps.{offsetCount, sliceHeld}
+use Rattle.tiles.specs.declared.element.ElementSize.{ElementSize}
+use Rattle.tiles.specs.declared.element.ElementSize.the-variants.{Bits8, Bits16, Bits32, Bits64, Bits128}
+use Rattle.tiles.specs.declared.direction.Direction.{Direction}
+use Rattle.tiles.specs.declared.direction.Direction.the-variants.{Horizontal, Vertical}
 use Rattle.encoding.specs.declared.operation.RegisterCount.{RegisterCount}
 use Rattle.encoding.specs.declared.operation.RegisterCount.the-variants.{Two, Four}
 use Rattle.encoding.specs.declared.operation.Operation.the-variants.{MovaToTile}
@@ -24,14 +29,36 @@ direction-below : (d : Direction) → directionNumber d < 2
 direction-below Horizontal = omega arith
 direction-below Vertical = omega arith
 
-module _ (d : Direction) (rs pg zn zad off : ℕ) where
+-- what the test of a slice says
+module _ (m : ElementSize) (index tile offset : ℕ) where
+  abbrev pub SliceRange : Type 0
+  SliceRange = (12 ≤ index) × (index ≤ 15) × (tile < bytesOf m) × (offset < offsetCount m)
+
+  pub slice-held : sliceHeld m index tile offset ≡ true → SliceRange
+  slice-held e =
+      let h = and-parts (leb 12 index && leb index 15 && ltb tile (bytesOf m)) (ltb offset (offsetCount m)) e in
+      let g = and-parts (leb 12 index && leb index 15) (ltb tile (bytesOf m)) (h .0) in
+      let f = and-parts (leb 12 index) (leb index 15) (g .0) in
+      (leb-true _ _ (f .0), leb-true _ _ (f .1), ltb-true _ _ (g .1), ltb-true _ _ (h .1))
+
+  -- past the first three tests the last decides
+  pub slice-rest : 12 ≤ index → index ≤ 15 → tile < bytesOf m → ltb offset (offsetCount m) ≡ sliceHeld m index tile offset
+  slice-rest a b c = rw (le-leb 12 index a, le-leb index 15 b, lt-ltb tile (bytesOf m) c)
+
+  pub slice-outside : sliceHeld m index tile offset ≡ false → SliceRange → ⊥
+  slice-outside e h = true≢false (sym (lt-ltb _ _ (h .3)) ∙ slice-rest (h .0) (h .1) (h .2) ∙ e)
+
+  pub slice-refused : (SliceRange → ⊥) → false ≡ sliceHeld m index tile offset
+  slice-refused n = sym (refute (sliceHeld m index tile offset) (λ e. n (slice-held e)))
+
+module _ (d : Direction) (index pg zn tile offset : ℕ) where
   abbrev pub ToTileRange : ElementSize → Type 0
-  ToTileRange m = (12 ≤ rs) × (rs ≤ 15) × (pg ≤ 7) × (zn ≤ 31) × (zad < bytesOf m) × (off < offsetCount m)
+  ToTileRange m = (12 ≤ index) × (index ≤ 15) × (pg ≤ 7) × (zn ≤ 31) × (tile < bytesOf m) × (offset < offsetCount m)
 
   abbrev pub toTileWord : ElementSize → ℕ
-  toTileWord m = 0xC0000000 + sizeBits m * 65536 + directionNumber d * 32768 + (rs - 12) * 8192 + pg * 1024 + zn * 32 + (zad * offsetCount m + off)
+  toTileWord m = 0xC0000000 + sizeBits m * 65536 + directionNumber d * 32768 + (index - 12) * 8192 + pg * 1024 + zn * 32 + (tile * offsetCount m + offset)
 
-  pub to-tile-encodes : (m : ElementSize) (v : ℕ) → ToTileRange m → v ≡ toTileWord m → Encodes (MovaToTile (record { size = m; direction = d; rs = rs; pg = pg; zn = zn; zad = zad; off = off })) (Word v)
+  pub to-tile-encodes : (m : ElementSize) (v : ℕ) → ToTileRange m → v ≡ toTileWord m → Encodes (MovaToTile (record { slice = record { size = m; direction = d; index = index; tile = tile; offset = offset }; pg = pg; zn = zn })) (Word v)
   unfolding table rowOfNumbers
   to-tile-encodes Bits8 v h e = encodes-as _ _ v refl (omega (arith, direction-below d)) (omega arith)
   to-tile-encodes Bits16 v h e = encodes-as _ _ v refl (omega (arith, direction-below d)) (omega arith)
@@ -39,7 +66,7 @@ module _ (d : Direction) (rs pg zn zad off : ℕ) where
   to-tile-encodes Bits64 v h e = encodes-as _ _ v refl (omega (arith, direction-below d)) (omega arith)
   to-tile-encodes Bits128 v h e = encodes-as _ _ v refl (omega (arith, direction-below d)) (omega arith)
 
-  pub to-tile-refuses : (m : ElementSize) → (ToTileRange m → ⊥) → Encodes (MovaToTile (record { size = m; direction = d; rs = rs; pg = pg; zn = zn; zad = zad; off = off })) OutOfRange
+  pub to-tile-refuses : (m : ElementSize) → (ToTileRange m → ⊥) → Encodes (MovaToTile (record { slice = record { size = m; direction = d; index = index; tile = tile; offset = offset }; pg = pg; zn = zn })) OutOfRange
   unfolding table rowOfNumbers
   to-tile-refuses Bits8 h = refuses-as _ _ refl (λ k. h (omega arith))
   to-tile-refuses Bits16 h = refuses-as _ _ refl (λ k. h (omega arith))
@@ -48,14 +75,14 @@ module _ (d : Direction) (rs pg zn zad off : ℕ) where
   to-tile-refuses Bits128 h = refuses-as _ _ refl (λ k. h (omega arith))
 
 -- with zeroing there is no predicate
-module _ (d : Direction) (pg rs zan off zd : ℕ) where
+module _ (d : Direction) (pg index tile offset zd : ℕ) where
   abbrev pub FromTileRange : ElementSize → Type 0
-  FromTileRange m = (pg ≤ 7) × (12 ≤ rs) × (rs ≤ 15) × (zan < bytesOf m) × (off < offsetCount m) × (zd ≤ 31)
+  FromTileRange m = (pg ≤ 7) × (12 ≤ index) × (index ≤ 15) × (tile < bytesOf m) × (offset < offsetCount m) × (zd ≤ 31)
 
   abbrev pub fromTileWord : Bool → ElementSize → ℕ
-  fromTileWord z m = 0xC0020000 + sizeBits m * 65536 + directionNumber d * 32768 + (rs - 12) * 8192 + fromTileBits z pg * 512 + (zan * offsetCount m + off) * 32 + zd
+  fromTileWord z m = 0xC0020000 + sizeBits m * 65536 + directionNumber d * 32768 + (index - 12) * 8192 + fromTileBits z pg * 512 + (tile * offsetCount m + offset) * 32 + zd
 
-  pub from-tile-encodes : (z : Bool) (m : ElementSize) (v : ℕ) → FromTileRange m → v ≡ fromTileWord z m → Encodes (fromTileMove z pg (record { size = m; direction = d; rs = rs; zan = zan; off = off; zd = zd })) (Word v)
+  pub from-tile-encodes : (z : Bool) (m : ElementSize) (v : ℕ) → FromTileRange m → v ≡ fromTileWord z m → Encodes (fromTileMove z pg (record { slice = record { size = m; direction = d; index = index; tile = tile; offset = offset }; zd = zd })) (Word v)
   unfolding table rowOfNumbers
   from-tile-encodes true Bits8 v h e = encodes-as _ _ v refl (omega (arith, direction-below d)) (omega arith)
   from-tile-encodes true Bits16 v h e = encodes-as _ _ v refl (omega (arith, direction-below d)) (omega arith)
@@ -68,7 +95,7 @@ module _ (d : Direction) (pg rs zan off zd : ℕ) where
   from-tile-encodes false Bits64 v h e = encodes-as _ _ v refl (omega (arith, direction-below d)) (omega arith)
   from-tile-encodes false Bits128 v h e = encodes-as _ _ v refl (omega (arith, direction-below d)) (omega arith)
 
-  pub from-tile-refuses : (z : Bool) (m : ElementSize) → (z ≡ true → pg ≡ 0) → (FromTileRange m → ⊥) → Encodes (fromTileMove z pg (record { size = m; direction = d; rs = rs; zan = zan; off = off; zd = zd })) OutOfRange
+  pub from-tile-refuses : (z : Bool) (m : ElementSize) → (z ≡ true → pg ≡ 0) → (FromTileRange m → ⊥) → Encodes (fromTileMove z pg (record { slice = record { size = m; direction = d; index = index; tile = tile; offset = offset }; zd = zd })) OutOfRange
   unfolding table rowOfNumbers
   from-tile-refuses true Bits8 q h = refuses-as _ _ refl (λ k. h (omega (arith, q refl)))
   from-tile-refuses true Bits16 q h = refuses-as _ _ refl (λ k. h (omega (arith, q refl)))
@@ -102,14 +129,14 @@ module _ (rv off zd : ℕ) where
   array-refuses false Two h = refuses-as _ _ refl (λ k. h (omega arith))
   array-refuses false Four h = refuses-as _ _ refl (λ k. h (omega arith))
 
-module _ (d : Direction) (rs pg rn rm zat imm : ℕ) where
+module _ (d : Direction) (index pg rn rm tile offset : ℕ) where
   abbrev pub AccessRange : ElementSize → Type 0
-  AccessRange m = (12 ≤ rs) × (rs ≤ 15) × (pg ≤ 7) × (rn ≤ 31) × (rm ≤ 31) × (zat < bytesOf m) × (imm < offsetCount m)
+  AccessRange m = (12 ≤ index) × (index ≤ 15) × (pg ≤ 7) × (rn ≤ 31) × (rm ≤ 31) × (tile < bytesOf m) × (offset < offsetCount m)
 
   abbrev pub accessWord : Bool → ElementSize → ℕ
-  accessWord s m = accessBits s m * 2097152 + rm * 65536 + directionNumber d * 32768 + (rs - 12) * 8192 + pg * 1024 + rn * 32 + (zat * offsetCount m + imm)
+  accessWord s m = accessBits s m * 2097152 + rm * 65536 + directionNumber d * 32768 + (index - 12) * 8192 + pg * 1024 + rn * 32 + (tile * offsetCount m + offset)
 
-  pub access-encodes : (s : Bool) (m : ElementSize) (v : ℕ) → AccessRange m → v ≡ accessWord s m → Encodes (accessMove s (record { size = m; direction = d; rs = rs; pg = pg; rn = rn; rm = rm; zat = zat; imm = imm })) (Word v)
+  pub access-encodes : (s : Bool) (m : ElementSize) (v : ℕ) → AccessRange m → v ≡ accessWord s m → Encodes (accessMove s (record { slice = record { size = m; direction = d; index = index; tile = tile; offset = offset }; pg = pg; rn = rn; rm = rm })) (Word v)
   unfolding table rowOfNumbers
   access-encodes true Bits8 v h e = encodes-as _ _ v refl (omega (arith, direction-below d)) (omega arith)
   access-encodes true Bits16 v h e = encodes-as _ _ v refl (omega (arith, direction-below d)) (omega arith)
@@ -122,7 +149,7 @@ module _ (d : Direction) (rs pg rn rm zat imm : ℕ) where
   access-encodes false Bits64 v h e = encodes-as _ _ v refl (omega (arith, direction-below d)) (omega arith)
   access-encodes false Bits128 v h e = encodes-as _ _ v refl (omega (arith, direction-below d)) (omega arith)
 
-  pub access-refuses : (s : Bool) (m : ElementSize) → (AccessRange m → ⊥) → Encodes (accessMove s (record { size = m; direction = d; rs = rs; pg = pg; rn = rn; rm = rm; zat = zat; imm = imm })) OutOfRange
+  pub access-refuses : (s : Bool) (m : ElementSize) → (AccessRange m → ⊥) → Encodes (accessMove s (record { slice = record { size = m; direction = d; index = index; tile = tile; offset = offset }; pg = pg; rn = rn; rm = rm })) OutOfRange
   unfolding table rowOfNumbers
   access-refuses true Bits8 h = refuses-as _ _ refl (λ k. h (omega arith))
   access-refuses true Bits16 h = refuses-as _ _ refl (λ k. h (omega arith))

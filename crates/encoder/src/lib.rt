@@ -4,14 +4,14 @@ ghost use mathlib.Core.Path.{_≡_};
 ghost use mathlib.Core.Bool.{true};
 ghost use Prim.Native.Nat.{_+_, _*_, _<_};
 ghost use Rattle.encoding.specs.Codec.{Encodes};
-ghost use Rattle.encoding.specs.Flat.{bytesOf};
+ghost use Rattle.tiles.specs.Element.{bytesOf};
 ghost use Rattle.encoding.specs.Steps.{sizeBits, fromTileMove, fromTileBits, arrayMove, arrayBits, accessMove, accessBits};
-ghost use Rattle.encoder.specs.Steps.{offsetCount};
-use encoding::Direction;
-use encoding::ElementSize;
+ghost use Rattle.encoder.specs.Steps.{offsetCount, sliceHeld};
 use encoding::Encoded;
 use encoding::Operation;
 use encoding::RegisterCount;
+use tiles::Direction;
+use tiles::ElementSize;
 
 // The word of an operation. Its parts go on as plain numbers to the function of its kind.
 pub fn encode(operation: Operation) -> Encoded
@@ -19,14 +19,16 @@ pub fn encode(operation: Operation) -> Encoded
 {
     match operation {
         Operation::MovaToTile(o) => {
-            let size = o.size;
-            let direction = o.direction;
-            encode_to_tile(size, direction, o.rs, o.pg, o.zn, o.zad, o.off)
+            let s = o.slice;
+            let size = s.size;
+            let direction = s.direction;
+            encode_to_tile(size, direction, s.index, o.pg, o.zn, s.tile, s.offset)
         }
         Operation::MovazFromTile(o) => {
-            let size = o.size;
-            let direction = o.direction;
-            encode_from_tile(true, 0, size, direction, o.rs, o.zan, o.off, o.zd)
+            let s = o.slice;
+            let size = s.size;
+            let direction = s.direction;
+            encode_from_tile(true, 0, size, direction, s.index, s.tile, s.offset, o.zd)
         }
         Operation::MovaFromArray(o) => {
             let registers = o.registers;
@@ -37,20 +39,52 @@ pub fn encode(operation: Operation) -> Encoded
             encode_array(true, registers, o.rv, o.off, o.zd)
         }
         Operation::St1(o) => {
-            let size = o.size;
-            let direction = o.direction;
-            encode_access(true, size, direction, o.rs, o.pg, o.rn, o.rm, o.zat, o.imm)
+            let s = o.slice;
+            let size = s.size;
+            let direction = s.direction;
+            encode_access(
+                true,
+                size,
+                direction,
+                s.index,
+                o.pg,
+                o.rn,
+                o.rm,
+                s.tile,
+                s.offset,
+            )
         }
         Operation::MovaFromTile(o) => {
             let w = o.whole;
-            let size = w.size;
-            let direction = w.direction;
-            encode_from_tile(false, o.pg, size, direction, w.rs, w.zan, w.off, w.zd)
+            let s = w.slice;
+            let size = s.size;
+            let direction = s.direction;
+            encode_from_tile(
+                false,
+                o.pg,
+                size,
+                direction,
+                s.index,
+                s.tile,
+                s.offset,
+                w.zd,
+            )
         }
         Operation::Ld1(o) => {
-            let size = o.size;
-            let direction = o.direction;
-            encode_access(false, size, direction, o.rs, o.pg, o.rn, o.rm, o.zat, o.imm)
+            let s = o.slice;
+            let size = s.size;
+            let direction = s.direction;
+            encode_access(
+                false,
+                size,
+                direction,
+                s.index,
+                o.pg,
+                o.rn,
+                o.rm,
+                s.tile,
+                s.offset,
+            )
         }
     }
 }
@@ -58,18 +92,15 @@ pub fn encode(operation: Operation) -> Encoded
 fn encode_to_tile(
     size: ElementSize,
     direction: Direction,
-    rs: u8,
+    index: u8,
     pg: u8,
     zn: u8,
-    zad: u8,
-    off: u8,
+    tile: u8,
+    offset: u8,
 ) -> Encoded
-    ensures { λ r. ⌜ Encodes (Operation.MovaToTile (record { size = size; direction = direction; rs = rs; pg = pg; zn = zn; zad = zad; off = off })) r ⌝ }
+    ensures { λ r. ⌜ Encodes (Operation.MovaToTile (record { slice = record { size = size; direction = direction; index = index; tile = tile; offset = offset }; pg = pg; zn = zn })) r ⌝ }
 {
-    if rs < 12 {
-        return Encoded::OutOfRange;
-    }
-    if 15 < rs {
+    if !is_slice_held(size, index, tile, offset) {
         return Encoded::OutOfRange;
     }
     if 7 < pg {
@@ -78,20 +109,14 @@ fn encode_to_tile(
     if 31 < zn {
         return Encoded::OutOfRange;
     }
-    if size.bytes() <= zad {
-        return Encoded::OutOfRange;
-    }
-    if offset_count(size) <= off {
-        return Encoded::OutOfRange;
-    }
     Encoded::Word(
         0xC0000000
             + size_bits(size) * 65536
             + direction.number() as u32 * 32768
-            + (rs - 12) as u32 * 8192
+            + (index - 12) as u32 * 8192
             + pg as u32 * 1024
             + zn as u32 * 32
-            + shared_bits(size, zad, off),
+            + shared_bits(size, tile, offset),
     )
 }
 
@@ -101,27 +126,18 @@ fn encode_from_tile(
     pg: u8,
     size: ElementSize,
     direction: Direction,
-    rs: u8,
-    zan: u8,
-    off: u8,
+    index: u8,
+    tile: u8,
+    offset: u8,
     zd: u8,
 ) -> Encoded
     requires { ⌜ (zeroes ≡ true → pg ≡ 0) ⌝ }
-    ensures { λ r. ⌜ Encodes (fromTileMove zeroes pg (record { size = size; direction = direction; rs = rs; zan = zan; off = off; zd = zd })) r ⌝ }
+    ensures { λ r. ⌜ Encodes (fromTileMove zeroes pg (record { slice = record { size = size; direction = direction; index = index; tile = tile; offset = offset }; zd = zd })) r ⌝ }
 {
     if 7 < pg {
         return Encoded::OutOfRange;
     }
-    if rs < 12 {
-        return Encoded::OutOfRange;
-    }
-    if 15 < rs {
-        return Encoded::OutOfRange;
-    }
-    if size.bytes() <= zan {
-        return Encoded::OutOfRange;
-    }
-    if offset_count(size) <= off {
+    if !is_slice_held(size, index, tile, offset) {
         return Encoded::OutOfRange;
     }
     if 31 < zd {
@@ -131,9 +147,9 @@ fn encode_from_tile(
         0xC0020000
             + size_bits(size) * 65536
             + direction.number() as u32 * 32768
-            + (rs - 12) as u32 * 8192
+            + (index - 12) as u32 * 8192
             + from_tile_bits(zeroes, pg) * 512
-            + shared_bits(size, zan, off) * 32
+            + shared_bits(size, tile, offset) * 32
             + zd as u32,
     )
 }
@@ -201,19 +217,16 @@ fn encode_access(
     stores: bool,
     size: ElementSize,
     direction: Direction,
-    rs: u8,
+    index: u8,
     pg: u8,
     rn: u8,
     rm: u8,
-    zat: u8,
-    imm: u8,
+    tile: u8,
+    offset: u8,
 ) -> Encoded
-    ensures { λ r. ⌜ Encodes (accessMove stores (record { size = size; direction = direction; rs = rs; pg = pg; rn = rn; rm = rm; zat = zat; imm = imm })) r ⌝ }
+    ensures { λ r. ⌜ Encodes (accessMove stores (record { slice = record { size = size; direction = direction; index = index; tile = tile; offset = offset }; pg = pg; rn = rn; rm = rm })) r ⌝ }
 {
-    if rs < 12 {
-        return Encoded::OutOfRange;
-    }
-    if 15 < rs {
+    if !is_slice_held(size, index, tile, offset) {
         return Encoded::OutOfRange;
     }
     if 7 < pg {
@@ -225,20 +238,14 @@ fn encode_access(
     if 31 < rm {
         return Encoded::OutOfRange;
     }
-    if size.bytes() <= zat {
-        return Encoded::OutOfRange;
-    }
-    if offset_count(size) <= imm {
-        return Encoded::OutOfRange;
-    }
     Encoded::Word(
         access_bits(stores, size) * 2097152
             + rm as u32 * 65536
             + direction.number() as u32 * 32768
-            + (rs - 12) as u32 * 8192
+            + (index - 12) as u32 * 8192
             + pg as u32 * 1024
             + rn as u32 * 32
-            + shared_bits(size, zat, imm),
+            + shared_bits(size, tile, offset),
     )
 }
 
@@ -266,6 +273,22 @@ fn offset_count(size: ElementSize) -> u8
         ElementSize::Bits64 => 2,
         ElementSize::Bits128 => 1,
     }
+}
+
+// Whether a word can name the slice: an index register of 12 to 15, a tile that there is, an offset that fits its bits.
+fn is_slice_held(size: ElementSize, index: u8, tile: u8, offset: u8) -> bool
+    ensures { λ r. ⌜ r ≡ sliceHeld size index tile offset ⌝ }
+{
+    if index < 12 {
+        return false;
+    }
+    if 15 < index {
+        return false;
+    }
+    if size.bytes() <= tile {
+        return false;
+    }
+    offset < offset_count(size)
 }
 
 // The four bits that a tile and an offset in range share.

@@ -1,39 +1,32 @@
 -- The three answers of the check of settings and lengths.
 -- Assumes nothing.
-use Prim.Native.Nat.{ℕ, _≤_}
-use mathlib.Core.Path.{_≡_, refl}
-use mathlib.Core.Bool.{Bool, true, false, and-eq-true-iff}
-use lib.Dec.{leb}
-use borrow.Author.Tests.{eq-eqb, le-leb}
-use Rattle.settings.specs.Settings.{isVectorLength, validSettings, maxLevel}
+use Prim.Native.Nat.{ℕ}
+use mathlib.Core.Path.{_≡_, refl, ap}
+use mathlib.Core.Bool.{Bool, true, false}
+use Rattle.settings.specs.Settings.{validSettings, lengthsOf}
+use Rattle.settings.specs.declared.Lengths.{Lengths}
 use Rattle.settings.specs.declared.Settings.{Settings}
-use Rattle.settings.proofs.SettingsLaws.{vector-length-small}
-use Rattle.execute.specs.declared.check.Buffers.the-variants.{Valid, BadSettings, BadLengths}
-use Rattle.execution.specs.Execute.{validLengths}
-use Rattle.execute.specs.Promise.{checkOf}
-use Rattle.execution.proofs.ExecuteLaws.{Lengths, lengths-facts}
+use Rattle.semantics.specs.declared.answer.Refusal.the-variants.{BadSettings, BadLengths}
+use Rattle.semantics.specs.declared.answer.Executed.the-variants.{Done, Refused}
+use Rattle.semantics.specs.Execute.{validLengths}
+use Rattle.semantics.specs.Steps.{Sized}
+use Rattle.semantics.proofs.ExecuteLaws.{valid-sized, sized-settings, sized-lengths}
+use Rattle.execute.specs.Promise.{ChecksBuffers}
 
-pub vector-valid : (s : Settings) → validSettings (s .«vector_bytes») (s .level) ≡ true → isVectorLength (s .«vector_bytes») ≡ true
-vector-valid s e = and-eq-true-iff (isVectorLength (s .«vector_bytes»)) (leb (s .level) maxLevel) .0 e .0
-
--- a valid vector length is at most 256
-pub longest : (s : Settings) → validSettings (s .«vector_bytes») (s .level) ≡ true → s .«vector_bytes» ≤ 256
-longest s e = vector-length-small (s .«vector_bytes») (vector-valid s e)
+-- the lengths of settings one by one
+pub lengths-parts : (s : Settings) (l : Lengths) → l ≡ lengthsOf s → (l .x ≡ lengthsOf s .x) × (l .z ≡ lengthsOf s .z) × (l .p ≡ lengthsOf s .p) × (l .za ≡ lengthsOf s .za)
+lengths-parts s l e = (ap (λ (l : Lengths). l .x) e, ap (λ (l : Lengths). l .z) e, ap (λ (l : Lengths). l .p) e, ap (λ (l : Lengths). l .za) e)
 
 module _ (s : Settings) (lx lz lp lza lm : ℕ) where
-  facts-lengths : Lengths s lx lz lp lza lm → validLengths s lx lz lp lza lm ≡ true
-  facts-lengths h =
-      rw (eq-eqb _ _ (h .x), eq-eqb _ _ (h .z), eq-eqb _ _ (h .p), eq-eqb _ _ (h .za)) (le-leb _ _ (h .memory))
+  pub bad-settings : validSettings s ≡ false → ChecksBuffers s lx lz lp lza lm (Refused BadSettings)
+  bad-settings e = record { equal = rw e; numbers = rw e }
 
-  pub bad-settings : validSettings (s .«vector_bytes») (s .level) ≡ false → BadSettings ≡ checkOf s lx lz lp lza lm
-  bad-settings e = rw e
+  pub right-lengths : Sized s lx lz lp lza lm → ChecksBuffers s lx lz lp lza lm Done
+  right-lengths h = record { equal = rw (sized-settings s _ _ _ _ _ h, sized-lengths s _ _ _ _ _ h); numbers = rw (sized-settings s _ _ _ _ _ h, sized-lengths s _ _ _ _ _ h) }
 
-  pub valid : validSettings (s .«vector_bytes») (s .level) ≡ true → Lengths s lx lz lp lza lm → Valid ≡ checkOf s lx lz lp lza lm
-  valid e h = rw (e, facts-lengths h)
-
-  pub bad-lengths : validSettings (s .«vector_bytes») (s .level) ≡ true → (Lengths s lx lz lp lza lm → ⊥) → BadLengths ≡ checkOf s lx lz lp lza lm
+  pub bad-lengths : validSettings s ≡ true → (Sized s lx lz lp lza lm → ⊥) → ChecksBuffers s lx lz lp lza lm (Refused BadLengths)
   bad-lengths e n = go (validLengths s lx lz lp lza lm) refl
     where
-      go : (b : Bool) → validLengths s lx lz lp lza lm ≡ b → BadLengths ≡ checkOf s lx lz lp lza lm
-      go true q = absurd (n (lengths-facts s lx lz lp lza lm q))
-      go false q = rw (e, q)
+      go : (b : Bool) → validLengths s lx lz lp lza lm ≡ b → ChecksBuffers s lx lz lp lza lm (Refused BadLengths)
+      go true q = absurd (n (valid-sized s lx lz lp lza lm e q))
+      go false q = record { equal = rw (e, q); numbers = rw (e, q) }

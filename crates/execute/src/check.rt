@@ -1,18 +1,12 @@
 // The checks that look at settings and lengths alone (answers 1 and 2 of document 01 §6).
-ghost use mathlib.Core.Path.{_≡_};
-ghost use Rattle.execute.specs.Promise.{checkOf};
+ghost use Rattle.execute.specs.Promise.{ChecksBuffers};
+use semantics::Executed;
+use semantics::Refusal;
 use settings::Checked;
 use settings::Settings;
 
-// What the check of settings and lengths finds.
-pub enum Buffers {
-    Valid,
-    BadSettings,
-    BadLengths,
-}
-
-// Whether the settings are valid, the buffers have the lengths that the vector length fixes, and
-// memory ends at 2^64 or before. Lengths are in elements: numbers for x, bytes for the others.
+// Whether the settings are valid, the buffers have the lengths that the settings fix, and
+// memory ends at 2^64 or before: Done, or why not. Lengths are in elements: numbers for x, bytes for the others.
 pub fn check_buffers(
     settings: Settings,
     x: usize,
@@ -20,29 +14,29 @@ pub fn check_buffers(
     p: usize,
     za: usize,
     memory: usize,
-) -> Buffers
-    ensures { λ r. ⌜ r ≡ checkOf settings x z p za memory ⌝ }
+) -> Executed
+    ensures { λ r. ⌜ ChecksBuffers settings x z p za memory r ⌝ }
 {
     let Checked::Valid = settings.check() else {
-        return Buffers::BadSettings;
+        return Executed::Refused(Refusal::BadSettings);
     };
-    let vector_bytes = settings.vector_bytes as usize;
-    if x != 32 {
-        return Buffers::BadLengths;
+    let lengths = settings.lengths();
+    if x as u64 != lengths.x {
+        return Executed::Refused(Refusal::BadLengths);
     }
-    if z != 32 * vector_bytes {
-        return Buffers::BadLengths;
+    if z as u64 != lengths.z {
+        return Executed::Refused(Refusal::BadLengths);
     }
-    if p != 16 * (vector_bytes / 8) {
-        return Buffers::BadLengths;
+    if p as u64 != lengths.p {
+        return Executed::Refused(Refusal::BadLengths);
     }
-    if za != vector_bytes * vector_bytes {
-        return Buffers::BadLengths;
+    if za as u64 != lengths.za {
+        return Executed::Refused(Refusal::BadLengths);
     }
     if 0 < memory {
         if u64::MAX - settings.memory_address < memory as u64 - 1 {
-            return Buffers::BadLengths;
+            return Executed::Refused(Refusal::BadLengths);
         }
     }
-    Buffers::Valid
+    Executed::Done
 }

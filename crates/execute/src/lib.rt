@@ -1,7 +1,7 @@
 // One call: the checks in order, then one operation (document 01 §5 and §6).
-ghost use Rattle.execute.specs.Promise.{Executes};
-use check::Buffers;
-use execution::Executed;
+ghost use Rattle.semantics.specs.State.{stateOf};
+ghost use Rattle.semantics.specs.Promise.{Executes};
+use semantics::Executed;
 use settings::Settings;
 
 mod array;
@@ -21,11 +21,11 @@ pub fn execute(
     za: &mut [u8],
     memory: &mut [u8],
 ) -> Executed
-    ensures { λ r. ⌜ Executes settings word (now (x .entry)) (now (p .entry)) (record { z = now (z .entry); za = now (za .entry); memory = now (memory .entry) }) r (record { z = now (z .exit); za = now (za .exit); memory = now (memory .exit) }) ⌝ }
+    ensures { λ r. ⌜ Executes settings word (stateOf (now (x .entry)) (now (z .entry)) (now (p .entry)) (now (za .entry)) (now (memory .entry))) r (stateOf (now (x .entry)) (now (z .exit)) (now (p .entry)) (now (za .exit)) (now (memory .exit))) ⌝ }
 {
-    match check::check_buffers(settings, x.len(), z.len(), p.len(), za.len(), memory.len()) {
-        Buffers::BadSettings => Executed::BadSettings,
-        Buffers::BadLengths => Executed::BadLengths,
-        Buffers::Valid => perform::perform(settings, word, x, z, p, za, memory),
+    let checked = check::check_buffers(settings, x.len(), z.len(), p.len(), za.len(), memory.len());
+    match checked {
+        Executed::Done => perform::perform(settings, word, x, z, p, za, memory),
+        Executed::Refused(_) => checked,
     }
 }

@@ -2,12 +2,9 @@
 // offset, index register, predicate, first vector register, base register, offset register, number of
 // vector registers. A number that a kind does not have is 0. (specs/Flat.antt of the crate encoding lists them by kind.)
 ghost use mathlib.Core.Path.{_≡_};
-ghost use mathlib.Core.List.{[], _∷_};
-ghost use Rattle.encoding.specs.Flat.{bytesOf, directionNumber, flatOf, tileToVectorOf, arrayToVectorsOf, sliceAccessOf, operationOf};
-ghost use Rattle.encoding.specs.Codec.{Unflattens, encodeFlatOf};
+ghost use Rattle.encoding.specs.Flat.{sliceFlat, arrayFlat, flatOf, sliceOf, tileToVectorOf, arrayToVectorsOf, sliceAccessOf, operationOf};
+ghost use Rattle.encoding.specs.Codec.{Unflattens, EncodesFlat};
 use encoding::ArrayToVectors;
-use encoding::Direction;
-use encoding::ElementSize;
 use encoding::Encoded;
 use encoding::Operation;
 use encoding::PredicatedTileToVector;
@@ -16,6 +13,9 @@ use encoding::SliceAccess;
 use encoding::TileToVector;
 use encoding::Unflattened;
 use encoding::VectorToTile;
+use tiles::Direction;
+use tiles::ElementSize;
+use tiles::TileSlice;
 
 // The eleven numbers of an operation.
 pub fn flatten(operation: Operation) -> [u8; 11]
@@ -23,83 +23,77 @@ pub fn flatten(operation: Operation) -> [u8; 11]
 {
     match operation {
         Operation::MovaToTile(o) => {
-            let size = o.size;
-            let direction = o.direction;
-            tile_numbers(1, size, direction, o.zad, o.off, o.rs, o.pg, o.zn, 0, 0, 1)
+            let slice = o.slice;
+            slice_numbers(1, slice, o.pg, o.zn, 0, 0, 1)
         }
         Operation::MovazFromTile(o) => {
-            let size = o.size;
-            let direction = o.direction;
-            tile_numbers(2, size, direction, o.zan, o.off, o.rs, 0, o.zd, 0, 0, 1)
+            let slice = o.slice;
+            slice_numbers(2, slice, 0, o.zd, 0, 0, 1)
         }
-        Operation::MovaFromArray(o) => {
-            let registers = o.registers;
-            [3, 0, 0, 0, o.off, o.rv, 0, o.zd, 0, 0, registers.number()]
+        Operation::MovaFromArray(o) => array_numbers(3, o),
+        Operation::MovazFromArray(o) => array_numbers(4, o),
+        Operation::St1(o) => {
+            let slice = o.slice;
+            slice_numbers(5, slice, o.pg, 0, o.rn, o.rm, 0)
         }
-        Operation::MovazFromArray(o) => {
-            let registers = o.registers;
-            [4, 0, 0, 0, o.off, o.rv, 0, o.zd, 0, 0, registers.number()]
-        }
-        Operation::St1(o) => access_numbers(5, o),
         Operation::MovaFromTile(o) => {
-            let w = o.whole;
-            let size = w.size;
-            let direction = w.direction;
-            tile_numbers(6, size, direction, w.zan, w.off, w.rs, o.pg, w.zd, 0, 0, 1)
+            let whole = o.whole;
+            let slice = whole.slice;
+            slice_numbers(6, slice, o.pg, whole.zd, 0, 0, 1)
         }
-        Operation::Ld1(o) => access_numbers(7, o),
+        Operation::Ld1(o) => {
+            let slice = o.slice;
+            slice_numbers(7, slice, o.pg, 0, o.rn, o.rm, 0)
+        }
     }
 }
 
-// The eleven numbers of a load or store.
-fn access_numbers(kind: u8, o: SliceAccess) -> [u8; 11]
-    ensures { λ r. ⌜ r ≡ kind ∷ bytesOf (o .size) ∷ directionNumber (o .direction) ∷ o .zat ∷ o .imm ∷ o .rs ∷ o .pg ∷ 0 ∷ o .rn ∷ o .rm ∷ 0 ∷ [] ⌝ }
-{
-    let size = o.size;
-    let direction = o.direction;
-    tile_numbers(
-        kind,
-        size,
-        direction,
-        o.zat,
-        o.imm,
-        o.rs,
-        o.pg,
-        0,
-        o.rn,
-        o.rm,
-        0,
-    )
-}
-
-// The eleven numbers of an operation on a tile's slice, size and direction by their numbers.
-fn tile_numbers(
+// The eleven numbers of an operation on a tile's slice.
+fn slice_numbers(
     kind: u8,
-    size: ElementSize,
-    direction: Direction,
-    tile: u8,
-    offset: u8,
-    index: u8,
+    slice: TileSlice,
     predicate: u8,
     vector: u8,
     base: u8,
     addend: u8,
     registers: u8,
 ) -> [u8; 11]
-    ensures { λ r. ⌜ r ≡ kind ∷ bytesOf size ∷ directionNumber direction ∷ tile ∷ offset ∷ index ∷ predicate ∷ vector ∷ base ∷ addend ∷ registers ∷ [] ⌝ }
+    ensures { λ r. ⌜ r ≡ sliceFlat kind slice predicate vector base addend registers ⌝ }
 {
+    let size = slice.size;
+    let direction = slice.direction;
     [
         kind,
         size.bytes(),
         direction.number(),
-        tile,
-        offset,
-        index,
+        slice.tile,
+        slice.offset,
+        slice.index,
         predicate,
         vector,
         base,
         addend,
         registers,
+    ]
+}
+
+// The eleven numbers of an array move.
+fn array_numbers(kind: u8, o: ArrayToVectors) -> [u8; 11]
+    ensures { λ r. ⌜ r ≡ arrayFlat kind o ⌝ }
+{
+    let registers = o.registers;
+    [
+        kind,
+        0,
+        0,
+        0,
+        o.off,
+        o.rv,
+        0,
+        o.zd,
+        0,
+        0,
+        registers.number(),
     ]
 }
 
@@ -120,7 +114,7 @@ pub fn unflatten(numbers: &[u8; 11]) -> Unflattened
 // The word of the operation that has these eleven numbers. OutOfRange where none has, or where no
 // word has its operation.
 pub fn encode_flat(numbers: &[u8; 11]) -> Encoded
-    ensures { λ r. ⌜ r ≡ encodeFlatOf (now (numbers .entry)) ⌝ }
+    ensures { λ r. ⌜ EncodesFlat (now (numbers .entry)) r ⌝ }
 {
     match unflatten(numbers) {
         Unflattened::Done(operation) => encoder::encode(operation),
@@ -132,28 +126,34 @@ pub fn encode_flat(numbers: &[u8; 11]) -> Encoded
 fn operation_of(numbers: &[u8; 11]) -> Operation
     ensures { λ r. ⌜ r ≡ operationOf (now (numbers .entry)) ⌝ }
 {
-    let kind = numbers[0];
-    let size = ElementSize::of_bytes(numbers[1]);
-    let direction = Direction::of_number(wide(numbers[2]));
-    match kind {
+    match numbers[0] {
         1 => Operation::MovaToTile(VectorToTile {
-            size: size,
-            direction: direction,
-            rs: numbers[5],
+            slice: slice_of(numbers),
             pg: numbers[6],
             zn: numbers[7],
-            zad: numbers[3],
-            off: numbers[4],
         }),
         2 => Operation::MovazFromTile(tile_to_vector_of(numbers)),
         3 => Operation::MovaFromArray(array_to_vectors_of(numbers)),
         4 => Operation::MovazFromArray(array_to_vectors_of(numbers)),
         5 => Operation::St1(slice_access_of(numbers)),
         6 => Operation::MovaFromTile(PredicatedTileToVector {
-            pg: numbers[6],
             whole: tile_to_vector_of(numbers),
+            pg: numbers[6],
         }),
         _ => Operation::Ld1(slice_access_of(numbers)),
+    }
+}
+
+// The slice in the eleven numbers.
+fn slice_of(numbers: &[u8; 11]) -> TileSlice
+    ensures { λ r. ⌜ r ≡ sliceOf (now (numbers .entry)) ⌝ }
+{
+    TileSlice {
+        size: ElementSize::of_bytes(numbers[1]),
+        direction: Direction::of_number(wide(numbers[2])),
+        index: numbers[5],
+        tile: numbers[3],
+        offset: numbers[4],
     }
 }
 
@@ -162,11 +162,7 @@ fn tile_to_vector_of(numbers: &[u8; 11]) -> TileToVector
     ensures { λ r. ⌜ r ≡ tileToVectorOf (now (numbers .entry)) ⌝ }
 {
     TileToVector {
-        size: ElementSize::of_bytes(numbers[1]),
-        direction: Direction::of_number(wide(numbers[2])),
-        rs: numbers[5],
-        zan: numbers[3],
-        off: numbers[4],
+        slice: slice_of(numbers),
         zd: numbers[7],
     }
 }
@@ -188,14 +184,10 @@ fn slice_access_of(numbers: &[u8; 11]) -> SliceAccess
     ensures { λ r. ⌜ r ≡ sliceAccessOf (now (numbers .entry)) ⌝ }
 {
     SliceAccess {
-        size: ElementSize::of_bytes(numbers[1]),
-        direction: Direction::of_number(wide(numbers[2])),
-        rs: numbers[5],
+        slice: slice_of(numbers),
         pg: numbers[6],
         rn: numbers[8],
         rm: numbers[9],
-        zat: numbers[3],
-        imm: numbers[4],
     }
 }
 

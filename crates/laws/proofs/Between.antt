@@ -2,13 +2,14 @@
 -- Assumes nothing.
 use Prim.Native.Nat.{ℕ, suc, _*_, _/_, _<_, _≤_}
 use mathlib.Core.Path.{_≡_, refl, sym, ap, _∙_, subst}
+use mathlib.Core.Bool.{true≢false}
 use mathlib.Core.List.{List, [], _∷_, _++_, map}
 use mathlib.Core.Option.{Option, none, some}
 use native.Mathlib.Nat.{le-refl, mod-lt}
 use native.Mathlib.Omega.{arith}
-use Rattle.encoding.specs.Flat.{bytesOf}
-use Rattle.encoding.specs.declared.operation.ElementSize.{ElementSize}
-use Rattle.encoding.specs.declared.operation.Direction.{Direction}
+use Rattle.tiles.specs.Element.{bytesOf}
+use Rattle.tiles.specs.declared.element.ElementSize.{ElementSize}
+use Rattle.tiles.specs.declared.direction.Direction.{Direction}
 use Rattle.encoding.specs.declared.operation.SliceAccess.{SliceAccess}
 use Rattle.encoding.specs.declared.operation.Operation.{Operation}
 use Rattle.encoding.specs.declared.operation.Operation.the-variants.{MovaToTile, MovazFromTile, MovaFromArray, MovazFromArray, St1, MovaFromTile, Ld1}
@@ -17,70 +18,111 @@ use Rattle.settings.specs.Settings.{isVectorLength}
 use Rattle.encoding.specs.Table.{table}
 use Rattle.encoding.specs.Codec.{rowOfWord, decodeOf}
 use Rattle.encoding.proofs.RangeLaws.{decoded-in-range}
-use Rattle.tiles.specs.Least.{least}
-use Rattle.tiles.specs.Scatter.{scatter, all}
+use Rattle.general.specs.Least.{least}
+use Rattle.general.specs.Scatter.{scatter, all}
 use Rattle.tiles.specs.Predicate.{active}
-use Rattle.tiles.specs.Tile.{flip, byteOf, sliceAt}
+use Rattle.tiles.specs.Direction.{flip}
+use Rattle.tiles.specs.Tile.{byteOf, sliceAt}
 use Rattle.tiles.specs.Group.{groupAt}
-use Rattle.tiles.proofs.LengthLaws.{whole}
+use Rattle.tiles.proofs.TileLaws.{element-below}
+use Rattle.tiles.proofs.LengthLaws.{whole-elements}
 use Rattle.tiles.proofs.SliceLaws.{active-element, written-at}
-use Rattle.execution.specs.declared.answer.Executed.{Executed}
-use Rattle.execution.specs.declared.answer.Executed.the-variants as executed
-use Rattle.execution.specs.Effect.{State, takenFromTile, takenFromArray, zeroedInArray, stored, loaded}
-use Rattle.execution.specs.Execute.{accessAnswer, answerOf, executeOf}
-use Rattle.execution.proofs.ExecuteLaws.{Ends, does, stays, ends}
-use Rattle.laws.specs.Calls.{Call, stateWith, outcome, zaAfter, run, Move, into, out, other, decodedOf, decodedMove, ifDoneMove, moved, withMove, moves}
-use Rattle.laws.specs.Between.{Beside, BesideKeepsZa, BesideMayRun, LoadsZero, LoadsStayOut, BesideShown, ZeroingWrites, LoadsWrite}
-use Rattle.laws.proofs.CallLaws.{DoesCall, CallEnds, moves-by, rests, call-ends, run-append}
-
--- the effect of such an operation on ZA is none
-effect-beside : (c : Call) (za : List ℕ) (o : Operation) → Beside o → DoesCall c za o → zaAfter c za ≡ za
-effect-beside c za (MovaToTile o) b d = absurd b
-effect-beside c za (MovazFromTile o) b d = absurd b
-effect-beside c za (MovaFromArray o) b d = ap (λ (t : State). t .za) (d .state)
-effect-beside c za (MovazFromArray o) b d = absurd b
-effect-beside c za (St1 o) b d = ap (λ (t : State). t .za) (d .state)
-effect-beside c za (MovaFromTile o) b d = ap (λ (t : State). t .za) (d .state)
-effect-beside c za (Ld1 o) b d = absurd b
+use Rattle.semantics.specs.declared.answer.Executed.{Executed}
+use Rattle.semantics.specs.declared.answer.Executed.the-variants as executed
+use Rattle.semantics.specs.State.{State, publicOf}
+use Rattle.semantics.specs.Effect.{writesOf, valuesOf, effectOf}
+use Rattle.semantics.specs.Execute.{ifDone, accessAnswer, answerOf, executeOf}
+use Rattle.semantics.proofs.ExecuteLaws.{refused-not-done, Ends, does, stays, ends}
+use Rattle.semantics.proofs.EffectLaws.{effect-idle}
+use Rattle.general.specs.Places.{Idle}
+use Rattle.settings.proofs.SettingsLaws.{five-lengths}
+use Rattle.laws.specs.Calls.{Call, stateWith, outcome, zaAfter, run, Move, into, out, other, decodedOf, decodedMove, moved, withMove, moves}
+use Rattle.laws.specs.Between.{LeavesZa, refused, idle, LeavesIsKept, BesideMayRun, Beside, BesideLeaves, RefusedLeaves, InactiveLeaves, InactiveShown, LoadsHavePlaces, LoadsDoNotLeave, LoadsZero, LoadsStayOut, BesideShown, ZeroingWrites, LoadsWrite}
+use Rattle.laws.proofs.CallLaws.{DoesCall, run-append}
 
 same-operation : {o o′ : Operation} → Done o ≡ Done o′ → o ≡ o′
 same-operation e = cc
 
-pub beside-keeps-za : BesideKeepsZa
-beside-keeps-za c za o e b = go (call-ends c za)
+pub leaves-is-kept : LeavesIsKept
+leaves-is-kept c za l = go l (ends (c .settings) (c .word) (stateWith c za))
   where
-    go : CallEnds c za → zaAfter c za ≡ za
-    go (moves-by o′ d q) =
-        let same : o ≡ o′ = same-operation (sym e ∙ d .decoded) in
-        effect-beside c za o′ (subst Beside same b) d
-    go (rests q r) = r
+    go : LeavesZa c za → Ends (c .settings) (c .word) (stateWith c za) → zaAfter c za ≡ za
+    go l (stays r n q) = ap (λ (t : State). t .za) q
+    go (refused r e) (does o d) = absurd (refused-not-done r (sym e ∙ d .answer))
+    go (idle o e h) (does o′ d) =
+        ap (λ (t : State). t .za) (d .state) ∙
+        effect-idle (c .settings) o′ (stateWith c za) (subst (λ (o : Operation). Idle (writesOf (c .settings) (publicOf (stateWith c za)) o .za)) (same-operation (sym e ∙ d .decoded)) h)
 
 pub beside-may-run : BesideMayRun
 unfolding run
-beside-may-run before after c za o e b =
-    run-append before (c ∷ after) za ∙ ap (run after) (beside-keeps-za c (run before za) o e b) ∙ sym (run-append before after za)
+beside-may-run before after c za l =
+    run-append before (c ∷ after) za ∙ ap (run after) (leaves-is-kept c (run before za) l) ∙ sym (run-append before after za)
+
+-- operations that have no place in ZA
+pub beside-leaves : BesideLeaves
+unfolding writesOf
+beside-leaves c za o e b = idle o e (go o b)
+  where
+    go : (o : Operation) → Beside o → Idle (writesOf (c .settings) (publicOf (stateWith c za)) o .za)
+    go (MovaToTile o) b = absurd b
+    go (MovazFromTile o) b = absurd b
+    go (MovaFromArray o) b = λ k h. absurd (omega arith)
+    go (MovazFromArray o) b = absurd b
+    go (St1 o) b = λ k h. absurd (omega arith)
+    go (MovaFromTile o) b = λ k h. absurd (omega arith)
+    go (Ld1 o) b = absurd b
+
+pub refused-leaves : RefusedLeaves
+refused-leaves c za n = go (outcome c za .answer) refl
+  where
+    go : (a : Executed) → outcome c za .answer ≡ a → LeavesZa c za
+    go executed.Done e = absurd (n e)
+    go (executed.Refused r) e = refused r e
+
+pub inactive-leaves : InactiveLeaves
+unfolding writesOf active
+inactive-leaves c za o e h = go (ends (c .settings) (c .word) (stateWith c za))
+  where
+    go : Ends (c .settings) (c .word) (stateWith c za) → LeavesZa c za
+    go (stays r n q) = refused r n
+    go (does o′ d) =
+        let B = c .settings .«vector_bytes» in
+        let w = whole-elements (o .slice .size) B (d .sized .vector) in
+        idle (MovaToTile o) e (λ k below. h (k / bytesOf (o .slice .size)) (element-below B B (bytesOf (o .slice .size)) (B / bytesOf (o .slice .size)) (w .elements) (le-refl B) k (w .some) below))
 
 -- ---- loads
 
 -- a done load is done by its own operation
 load-does : (c : Call) (za : List ℕ) (o : SliceAccess) → decodedOf c ≡ Done (Ld1 o) → outcome c za .answer ≡ executed.Done → DoesCall c za (Ld1 o)
-load-does c za o e a = go (ends (c .settings) (c .word) (c .x) (c .p) (stateWith c za))
+load-does c za o e a = go (ends (c .settings) (c .word) (stateWith c za))
   where
-    go : Ends (c .settings) (c .word) (c .x) (c .p) (stateWith c za) → DoesCall c za (Ld1 o)
+    go : Ends (c .settings) (c .word) (stateWith c za) → DoesCall c za (Ld1 o)
     go (does o′ d) = subst (DoesCall c za) (same-operation (sym (d .decoded) ∙ e)) d
-    go (stays n q) = absurd (n a)
+    go (stays r n q) = absurd (refused-not-done r (sym n ∙ a))
+
+pub loads-have-places : LoadsHavePlaces
+unfolding writesOf
+loads-have-places s u o = (refl, λ k. refl)
+
+pub loads-do-not-leave : LoadsDoNotLeave
+unfolding writesOf
+loads-do-not-leave c za o q a (refused r e) = refused-not-done r (sym e ∙ a)
+loads-do-not-leave c za o q a (idle o′ e h) =
+    let d = load-does c za o q a in
+    let none = subst (λ (o : Operation). Idle (writesOf (c .settings) (publicOf (stateWith c za)) o .za)) (same-operation (sym e ∙ q)) h in
+    true≢false (none 0 (five-lengths (λ B. 0 < B) (omega arith) (omega arith) (omega arith) (omega arith) (omega arith) (c .settings .«vector_bytes») (d .sized .vector)))
 
 pub loads-zero : LoadsZero
-unfolding loaded
+unfolding writesOf valuesOf effectOf
 loads-zero c za o e i q a he hi off =
     let B = c .settings .«vector_bytes» in
-    let m = bytesOf (o .size) in
+    let m = bytesOf (o .slice .size) in
     let d = load-does c za o q a in
-    let h = whole (o .size) B (d .vector) in
+    let h = whole-elements (o .slice .size) B (d .sized .vector) in
     let r = decoded-in-range (c .word) (c .settings .level) (Ld1 o) (d .decoded) in
     let inactive = active-element (c .p) (o .pg * (B / 8)) m e i hi ∙ off in
     rw (ap (λ (t : State). t .za) (d .state))
-    (written-at B B m (B / m) (h .elements) (le-refl B) (o .zat) (r .tile) (o .direction) all _ za _ e i (omega (arith, d .lengths .za)) (mod-lt _ (h .slices)) he hi ∙ rw inactive)
+    (written-at B B m (B / m) (h .elements) (le-refl B) (o .slice .tile) (r .slice .tile) (o .slice .direction) all _ za _ e i (omega (arith, d .sized .za)) (mod-lt _ (h .slices)) he hi ∙ rw inactive)
 
 -- how many moves of a list are neither into a tile nor out of one
 abbrev others : List Move → ℕ
@@ -108,19 +150,23 @@ others-some (b ∷ before) after c za e = omega (arith, others-some before after
 pub loads-stay-out : LoadsStayOut
 unfolding moved
 loads-stay-out S B size d t before after c za o e a h =
-    let is-other : moved c (run before za) ≡ some other = ap (λ (r : Executed). ifDoneMove r (decodedMove c (decodedOf c))) a ∙ ap (decodedMove c) e in
+    let is-other : moved c (run before za) ≡ some other = ap (λ (r : Executed). ifDone r none (decodedMove c (decodedOf c))) a ∙ ap (decodedMove c) e in
     omega (arith, others-some before after c za is-other, ap others (h .order), others-none S B size d t (h .rows) (h .columns))
 
 -- ---- computed
 
 pub beside-shown : BesideShown
-unfolding table rowOfWord decodeOf isVectorLength scatter active byteOf sliceAt groupAt least takenFromTile takenFromArray zeroedInArray stored accessAnswer answerOf executeOf
+unfolding table rowOfWord decodeOf isVectorLength scatter active byteOf sliceAt groupAt least writesOf valuesOf effectOf accessAnswer answerOf executeOf
 beside-shown = record { done = refl; decoded = refl; may = (tt, (tt, (tt, (tt, (tt, (tt, (tt, (tt, tt)))))))) }
 
+pub inactive-shown : InactiveShown
+unfolding table rowOfWord decodeOf isVectorLength scatter active byteOf sliceAt groupAt least writesOf valuesOf effectOf accessAnswer answerOf executeOf
+inactive-shown = record { done = refl; kept = refl }
+
 pub zeroing-writes : ZeroingWrites
-unfolding table rowOfWord decodeOf isVectorLength scatter active byteOf sliceAt groupAt least takenFromTile takenFromArray zeroedInArray stored accessAnswer answerOf executeOf
+unfolding table rowOfWord decodeOf isVectorLength scatter active byteOf sliceAt groupAt least writesOf valuesOf effectOf accessAnswer answerOf executeOf
 zeroing-writes = record { done = refl; before = refl; after = refl }
 
 pub loads-write : LoadsWrite
-unfolding table rowOfWord decodeOf isVectorLength scatter active byteOf sliceAt groupAt least takenFromTile takenFromArray zeroedInArray stored loaded accessAnswer answerOf executeOf
+unfolding table rowOfWord decodeOf isVectorLength scatter active byteOf sliceAt groupAt least writesOf valuesOf effectOf accessAnswer answerOf executeOf
 loads-write = record { done = refl; before = (refl, refl); after = refl }

@@ -7,28 +7,17 @@ use mathlib.Core.Option.{Option, none, some}
 use native.Mathlib.Omega.{arith}
 use lib.ListN.{length}
 use Rattle.encoding.specs.declared.operation.Operation.{Operation}
-use Rattle.encoding.specs.declared.operation.Operation.the-variants.{MovaToTile, MovazFromTile, MovaFromArray, MovazFromArray, St1, MovaFromTile, Ld1}
-use Rattle.tiles.proofs.ScatterLaws.{length-scatter}
-use Rattle.execution.specs.declared.answer.Executed.{Executed}
-use Rattle.execution.specs.declared.answer.Executed.the-variants.{Done, BadSettings, BadLengths, Undecodable, StreamingOff, ZaOff, StackMisaligned, OutsideMemory}
-use Rattle.execution.specs.Effect.{State, movedToTile, zeroedInTile, zeroedInArray, loaded, effectOf}
-use Rattle.execution.proofs.ExecuteLaws.{Refusal, Does, Ends, does, stays, ends}
-use Rattle.laws.specs.Calls.{Call, stateWith, outcome, zaAfter, run, Move, decodedOf, moveOf, decodedMove, ifDoneMove, moved, withMove, moves}
+use Rattle.semantics.specs.declared.answer.Executed.{Executed}
+use Rattle.semantics.specs.State.{State}
+use Rattle.semantics.specs.Execute.{ifDone}
+use Rattle.semantics.proofs.Claims.{execution-keeps}
+use Rattle.semantics.proofs.ExecuteLaws.{Does, Ends, does, stays, ends}
+use Rattle.laws.specs.Calls.{Call, stateWith, zaAfter, run, Move, decodedOf, moveOf, decodedMove, moved, withMove, moves}
 
 -- ---- one call
 
 abbrev pub DoesCall : Call → List ℕ → Operation → Type 0
-DoesCall c za o = Does (c .settings) (c .word) (c .x) (c .p) (stateWith c za) o
-
-refused-move : (a : Executed) (m : Option Move) → Refusal a → ifDoneMove a m ≡ none
-refused-move Done m n = absurd (n refl)
-refused-move BadSettings m n = refl
-refused-move BadLengths m n = refl
-refused-move Undecodable m n = refl
-refused-move StreamingOff m n = refl
-refused-move ZaOff m n = refl
-refused-move StackMisaligned m n = refl
-refused-move (OutsideMemory a) m n = refl
+DoesCall c za o = Does (c .settings) (c .word) (stateWith c za) o
 
 -- a call is done, with the move of its operation, or has no move and leaves ZA
 pub data CallEnds (c : Call) (za : List ℕ) : Type 0 where
@@ -37,14 +26,14 @@ pub data CallEnds (c : Call) (za : List ℕ) : Type 0 where
 
 pub call-ends : (c : Call) (za : List ℕ) → CallEnds c za
 unfolding moved
-call-ends c za = go (ends (c .settings) (c .word) (c .x) (c .p) (stateWith c za))
+call-ends c za = go (ends (c .settings) (c .word) (stateWith c za))
   where
-    go : Ends (c .settings) (c .word) (c .x) (c .p) (stateWith c za) → CallEnds c za
+    go : Ends (c .settings) (c .word) (stateWith c za) → CallEnds c za
     go (does o d) =
         moves-by o d
-        (ap (λ (a : Executed). ifDoneMove a (decodedMove c (decodedOf c))) (d .answer) ∙
+        (ap (λ (a : Executed). ifDone a none (decodedMove c (decodedOf c))) (d .answer) ∙
         ap (decodedMove c) (d .decoded))
-    go (stays n e) = rests (refused-move (outcome c za .answer) _ n) (ap (λ (t : State). t .za) e)
+    go (stays r n e) = rests (ap (λ (a : Executed). ifDone a none (decodedMove c (decodedOf c))) n) (ap (λ (t : State). t .za) e)
 
 pub none-some : {A : Type 0} {m : A} → none ≡ some m → ⊥
 none-some e = let z : _≡_ {A = ℕ} 0 1 = cc in omega arith
@@ -66,22 +55,8 @@ has-move c za m e = go (call-ends c za)
     go (rests q k) = absurd (none-some (sym q ∙ e))
 
 -- a call keeps ZA's length
-za-long : (S B a : ℕ) (x p : List ℕ) (o : Operation) (t : State) → length (effectOf S B x p a o t .za) ≡ length (t .za)
-unfolding movedToTile zeroedInTile zeroedInArray loaded
-za-long S B a x p (MovaToTile o) t = length-scatter _ _ _ _ _
-za-long S B a x p (MovazFromTile o) t = length-scatter _ _ _ _ _
-za-long S B a x p (MovaFromArray o) t = refl
-za-long S B a x p (MovazFromArray o) t = length-scatter _ _ _ _ _
-za-long S B a x p (St1 o) t = refl
-za-long S B a x p (MovaFromTile o) t = refl
-za-long S B a x p (Ld1 o) t = length-scatter _ _ _ _ _
-
 pub call-long : (c : Call) (za : List ℕ) → length (zaAfter c za) ≡ length za
-call-long c za = go (call-ends c za)
-  where
-    go : CallEnds c za → length (zaAfter c za) ≡ length za
-    go (moves-by o d q) = ap (λ (t : State). length (t .za)) (d .state) ∙ za-long _ _ _ (c .x) (c .p) o (stateWith c za)
-    go (rests q k) = ap length k
+call-long c za = execution-keeps (c .settings) (c .word) (stateWith c za) .za
 
 -- ---- lists of calls
 

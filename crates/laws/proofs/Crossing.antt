@@ -3,24 +3,25 @@
 -- Assumes nothing.
 use Prim.Native.Nat.{ℕ, zero, suc, _+_, _*_, _/_, _<_, _≤_}
 use mathlib.Core.Path.{_≡_, refl, sym, ap, _∙_, subst}
-use mathlib.Core.Bool.{Bool, true}
+use mathlib.Core.Bool.{Bool, true, cond}
 use mathlib.Core.List.{List, [], _∷_, _++_, map, append-assoc}
 use mathlib.Core.Option.{some}
 use mathlib.Core.Logic.{_⊎_, inl, inr}
 use native.Mathlib.Omega.{arith}
 use lib.ListN.{length, getD}
 use Rattle.settings.specs.Settings.{isVectorLength}
-use Rattle.encoding.specs.Flat.{bytesOf}
-use Rattle.encoding.specs.declared.operation.ElementSize.{ElementSize}
-use Rattle.encoding.specs.declared.operation.Direction.{Direction}
-use Rattle.encoding.specs.declared.operation.Direction.the-variants.{Horizontal, Vertical}
-use Rattle.tiles.specs.Scatter.{pick, all, zeros}
+use Rattle.tiles.specs.Element.{bytesOf}
+use Rattle.tiles.specs.declared.element.ElementSize.{ElementSize}
+use Rattle.tiles.specs.declared.direction.Direction.{Direction}
+use Rattle.tiles.specs.declared.direction.Direction.the-variants.{Horizontal, Vertical}
+use Rattle.general.specs.Scatter.{all, zeros}
 use Rattle.tiles.specs.Predicate.{bit}
-use Rattle.tiles.specs.Tile.{flip, byteAt, byteOf, Outside}
+use Rattle.tiles.specs.Direction.{flip}
+use Rattle.tiles.specs.Tile.{byteAt, byteOf, Outside}
 use Rattle.tiles.proofs.TileLaws.{byteAt-within, slices-cross}
 use Rattle.tiles.proofs.SliceLaws.{active-element, written-at, taken-at}
-use Rattle.tiles.proofs.LengthLaws.{whole}
-use Rattle.laws.specs.Calls.{Call, outcome, run, Move, into, out, moved, vectorOf, predicateOf}
+use Rattle.tiles.proofs.LengthLaws.{whole-elements}
+use Rattle.laws.specs.Calls.{Call, outcome, run, Move, into, out, moved, registerOf, predicateOf}
 use Rattle.laws.specs.Crossing.{EachOnce, slicesOf, Once, Crossed, CrossingLaw}
 use Rattle.laws.proofs.CallLaws.{run-append, run-long, quiet, Parts, parts, cons-same}
 use Rattle.laws.proofs.MoveFacts.{into-call, out-call}
@@ -88,7 +89,7 @@ module _ (S B : ℕ) (size : ElementSize) (d : Direction) (t : ℕ) (valid : isV
   n = slicesOf B size
 
   divides : n * m ≡ B
-  divides = whole size B valid .elements
+  divides = whole-elements size B valid .elements
 
   -- both kinds of move write within a slice
   into-writes : (c : Call) (za : List ℕ) (k : ℕ) → moved c za ≡ some (into S B size d t k) → Writes S B m n divides fits t tile d c za k
@@ -156,9 +157,9 @@ module _ (S B : ℕ) (size : ElementSize) (d : Direction) (t : ℕ) (valid : isV
             e ∙ ap (λ (l : List Call). first ++ l) (only b′ a c f (ap (moved c) (sym (run-append first b′ za)) ∙ ap (λ (l : List Call). moved c (run l za)) (sym e) ∙ q))
 
     back : (k j i : ℕ) (hk : k < n) (hj : j < n) → i < m →
-        getD (outcome (column k hk .call) (run (column k hk .before) za) .state .z) (vectorOf (column k hk .call) * S + (j * m + i)) 0 ≡
-        pick (bit (row j hj .call .p) (predicateOf (row j hj .call) * (S / 8)) (k * m))
-        (getD (row j hj .call .z) (vectorOf (row j hj .call) * S + (k * m + i)) 0)
+        getD (outcome (column k hk .call) (run (column k hk .before) za) .state .z) (registerOf (column k hk .call) * S + (j * m + i)) 0 ≡
+        cond (bit (row j hj .call .p) (predicateOf (row j hj .call) * (S / 8)) (k * m))
+        (getD (row j hj .call .z) (registerOf (row j hj .call) * S + (k * m + i)) 0)
         (getD za (byteOf S m t d j k i) 0)
     unfolding row column
     back k j i hk hj hi =
@@ -167,16 +168,16 @@ module _ (S B : ℕ) (size : ElementSize) (d : Direction) (t : ℕ) (valid : isV
         let at = run (r .before) za in
         let p = into-call (r .call) at S B size d t j (r .move) in
         let o = out-call (c .call) (run (c .before) za₁) S B size (flip d) t k (c .move) in
-        ap (λ (a : List ℕ). getD (outcome (c .call) a .state .z) (vectorOf (c .call) * S + (j * m + i)) 0) (run-append first (c .before) za) ∙
-        ap (λ (l : List ℕ). getD l (vectorOf (c .call) * S + (j * m + i)) 0) (o .takes) ∙
-        taken-at S B m n divides fits t tile (flip d) (run (c .before) za₁) (vectorOf (c .call) * S) (c .call .z) k j i (o .room) hj hi ∙
+        ap (λ (a : List ℕ). getD (outcome (c .call) a .state .z) (registerOf (c .call) * S + (j * m + i)) 0) (run-append first (c .before) za) ∙
+        ap (λ (l : List ℕ). getD l (registerOf (c .call) * S + (j * m + i)) 0) (o .takes) ∙
+        taken-at S B m n divides fits t tile (flip d) (run (c .before) za₁) (registerOf (c .call) * S) (c .call .z) k j i (o .room) hj hi ∙
         c .until j i hj hi ∙
         ap (λ (x : ℕ). getD za₁ x 0) (sym (slices-cross S m t d j k i)) ∙
         r .since k i hk hi ∙
         ap (λ (l : List ℕ). getD l (byteOf S m t d j k i) 0) (p .is) ∙
         written-at S B m n divides fits t tile d _ _ at j k i (omega (arith, p .long)) hj hk hi ∙
-        ap (λ (b : Bool). pick b (getD (r .call .z) (vectorOf (r .call) * S + (k * m + i)) 0) (getD at (byteOf S m t d j k i) 0)) (active-element (r .call .p) (predicateOf (r .call) * (S / 8)) m k i hi) ∙
-        ap (pick (bit (r .call .p) (predicateOf (r .call) * (S / 8)) (k * m)) (getD (r .call .z) (vectorOf (r .call) * S + (k * m + i)) 0)) (r .until k i hk hi)
+        ap (λ (b : Bool). cond b (getD (r .call .z) (registerOf (r .call) * S + (k * m + i)) 0) (getD at (byteOf S m t d j k i) 0)) (active-element (r .call .p) (predicateOf (r .call) * (S / 8)) m k i hi) ∙
+        ap (cond (bit (r .call .p) (predicateOf (r .call) * (S / 8)) (k * m)) (getD (r .call .z) (registerOf (r .call) * S + (k * m + i)) 0)) (r .until k i hk hi)
 
     -- a column's call found ZA of the right length
     length-kept : (k : ℕ) → k < n → length za ≡ B * S

@@ -11,15 +11,15 @@ use native.Mathlib.Omega.{arith}
 use lib.Dec.{eqb}
 use lib.ListN.{length, getD, set, replicate, length-set}
 use lib.Seq.{getD-set-same}
-use borrow.Author.Tests.{eq-eqb, le-leb, eqb-true, eqb-false}
-use Rattle.settings.specs.Settings.{isVectorLength, validSettings, maxLevel}
+use borrow.Author.Tests.{eqb-true, eqb-false}
+use Rattle.settings.specs.Settings.{isVectorLength, maxLevel, maxVectorBytes}
 use Rattle.settings.specs.declared.Settings.{Settings}
-use Rattle.encoding.specs.Flat.{bytesOf}
+use Rattle.tiles.specs.Element.{bytesOf}
 use Rattle.encoding.specs.Codec.{decodeOf, encodeOf}
 use Rattle.encoding.specs.Answer.{encodedAnswer}
-use Rattle.encoding.specs.declared.operation.ElementSize.{ElementSize}
-use Rattle.encoding.specs.declared.operation.ElementSize.the-variants.{Bits8, Bits16, Bits32, Bits64, Bits128}
-use Rattle.encoding.specs.declared.operation.Direction.{Direction}
+use Rattle.tiles.specs.declared.element.ElementSize.{ElementSize}
+use Rattle.tiles.specs.declared.element.ElementSize.the-variants.{Bits8, Bits16, Bits32, Bits64, Bits128}
+use Rattle.tiles.specs.declared.direction.Direction.{Direction}
 use Rattle.encoding.specs.declared.operation.Operation.{Operation}
 use Rattle.encoding.specs.declared.operation.Decoded.the-variants as decoded
 use Rattle.encoding.specs.declared.operation.Encoded.{Encoded}
@@ -27,18 +27,19 @@ use Rattle.encoding.specs.declared.operation.Encoded.the-variants.{Word}
 use Rattle.encoding.proofs.Claims.{decode-inverts-encode}
 use Rattle.encoder.specs.Steps.{offsetCount}
 use Rattle.encoder.proofs.EncoderLaws.{to-tile-encodes, from-tile-encodes}
-use Rattle.tiles.specs.Tile.{flip}
-use Rattle.execution.specs.declared.answer.Executed.{Executed}
-use Rattle.execution.specs.declared.answer.Executed.the-variants.{Done}
-use Rattle.execution.specs.Effect.{selected}
-use Rattle.execution.specs.Execute.{validLengths, operationAnswer}
-use Rattle.tiles.proofs.LengthLaws.{whole}
-use Rattle.execution.proofs.ExecuteLaws.{Refusal, done-when}
-use Rattle.laws.specs.Calls.{Call, stateWith, outcome, zaAfter, run, Move, into, out, decodedOf, moveAt, decodedMove, ifDoneMove, moved, withMove, moves}
-use Rattle.laws.specs.Crossing.{times, slicesOf}
+use Rattle.tiles.specs.Direction.{flip}
+use Rattle.semantics.specs.declared.answer.Executed.{Executed}
+use Rattle.semantics.specs.declared.answer.Executed.the-variants.{Done}
+use Rattle.tiles.specs.Slice.{selected}
+use Rattle.semantics.specs.Execute.{ifDone, operationAnswer}
+use Rattle.tiles.proofs.LengthLaws.{whole-elements}
+use Rattle.semantics.proofs.ExecuteLaws.{SizedAt, operation-answer}
+use Rattle.laws.specs.Calls.{Call, stateWith, outcome, zaAfter, run, Move, into, out, decodedOf, moveOf, decodedMove, moved, withMove, moves}
+use Rattle.laws.specs.Crossing.{occurrences, slicesOf}
 use Rattle.laws.specs.Exhibit.{inward, outward, wordFor, callOn, crossingCalls, Ready, Below, ListsExist, downFrom, OrdersExist, RefusedMayStand}
 use Rattle.laws.proofs.CallLaws.{CallEnds, moves-by, rests, call-ends, none-some, call-long, run-long}
-use Rattle.laws.proofs.PhaseLaws.{by-test, times-here, times-past}
+use Rattle.laws.proofs.PhaseLaws.{occurrences-here, occurrences-past}
+use Rattle.general.proofs.BoolLaws.{by-test}
 
 -- ---- words
 
@@ -75,18 +76,18 @@ down-length zero = refl
 down-length (suc n) = ap suc (down-length n)
 
 -- a number that is not below n does not stand in a list below n
-below-none : (n k : ℕ) (l : List ℕ) → n ≤ k → Below n l → times k l ≡ 0
-unfolding times
+below-none : (n k : ℕ) (l : List ℕ) → n ≤ k → Below n l → occurrences k l ≡ 0
+unfolding occurrences
 below-none n k [] h b = refl
-below-none n k (x ∷ l) h b = times-past k x l (λ e. omega (arith, b .0)) ∙ below-none n k l h (b .1)
+below-none n k (x ∷ l) h b = occurrences-past k x l (λ e. omega (arith, b .0)) ∙ below-none n k l h (b .1)
 
-down-once : (n k : ℕ) → k < n → times k (downFrom n) ≡ 1
+down-once : (n k : ℕ) → k < n → occurrences k (downFrom n) ≡ 1
 down-once zero k h = absurd (omega arith)
 down-once (suc n) k h = go (by-test (eqb n k)) (down-once n k)
   where
-    go : (eqb n k ≡ true) ⊎ (eqb n k ≡ false) → (k < n → times k (downFrom n) ≡ 1) → times k (n ∷ downFrom n) ≡ 1
-    go (inl y) v = let e = eqb-true n k y in times-here k n (downFrom n) e ∙ ap suc (below-none n k (downFrom n) (omega arith) (down-below n))
-    go (inr y) v = let ne = eqb-false n k y in times-past k n (downFrom n) ne ∙ v (omega arith)
+    go : (eqb n k ≡ true) ⊎ (eqb n k ≡ false) → (k < n → occurrences k (downFrom n) ≡ 1) → occurrences k (n ∷ downFrom n) ≡ 1
+    go (inl y) v = let e = eqb-true n k y in occurrences-here k n (downFrom n) e ∙ ap suc (below-none n k (downFrom n) (omega arith) (down-below n))
+    go (inr y) v = let ne = eqb-false n k y in occurrences-past k n (downFrom n) ne ∙ v (omega arith)
 
 pub orders-exist : OrdersExist
 orders-exist n = (record { many = down-length n; once = down-once n }, down-below n)
@@ -94,7 +95,7 @@ orders-exist n = (record { many = down-length n; once = down-once n }, down-belo
 -- ---- one call
 
 -- the index register k + n gives slice k of n
-selects : (n k : ℕ) → k < n → n ≤ 256 → selected (set (replicate 32 0) 12 (k + n)) 12 0 n ≡ k
+selects : (n k : ℕ) → k < n → n ≤ maxVectorBytes → selected (set (replicate 32 0) 12 (k + n)) 12 0 n ≡ k
 selects n k h few =
     rw (getD-set-same (replicate 32 0) 12 (k + n) 0 (omega arith))
     (ap (λ (w : ℕ). (w + 0) % n) (mod-eq-of-lt small) ∙ ap (λ (w : ℕ). w % n) (omega arith) ∙ add-mod-right k n ∙ mod-eq-of-lt h)
@@ -103,23 +104,16 @@ selects n k h few =
     small = omega arith
 
 module _ (B n : ℕ) (ss : ℕ → Settings) (zs ps : ℕ → List ℕ) (valid : isVectorLength B ≡ true) (k : ℕ) (ready : Ready B (ss k) (zs k) (ps k)) (za : List ℕ) (long : length za ≡ B * B) where
-  -- the lengths are right
-  lengths-valid : (v : ℕ) → validLengths (ss k) (length (set (replicate 32 0) 12 v)) (length (zs k)) (length (ps k)) (length za) 0 ≡ true
-  lengths-valid v =
-      rw (ready .vector, length-set (replicate 32 0) 12 v, ready .vectors, ready .predicates, long, eq-eqb (32 * B) _ refl, eq-eqb (16 * (B / 8)) _ refl, eq-eqb (B * B) _ refl)
-      (le-leb (ss k .«memory_address» + 0) (2 ^ 64) (omega (arith, ready .address)))
-
-  -- so a call whose operation is never refused is done
-  call-done : (o : Operation) → decodeOf (wordFor o) maxLevel ≡ decoded.Done o → operationAnswer (ss k) (set (replicate 32 0) 12 (k + n)) (ps k) 0 o ≡ Done → moved (callOn n o ss zs ps k) za ≡ some (moveAt B B (callOn n o ss zs ps k) o)
+  -- a call whose operation is never refused is done
+  call-done : (o : Operation) → decodeOf (wordFor o) maxLevel ≡ decoded.Done o → operationAnswer (ss k) (set (replicate 32 0) 12 (k + n)) (ps k) 0 o ≡ Done → moved (callOn n o ss zs ps k) za ≡ some (moveOf (callOn n o ss zs ps k) o)
   unfolding moved
   call-done o means ans =
       let c = callOn n o ss zs ps k in
       let decodes : decodedOf c ≡ decoded.Done o = ap (decodeOf (wordFor o)) (ready .level) ∙ means in
-      let settings : validSettings (ss k .«vector_bytes») (ss k .level) ≡ true = rw (ready .vector, valid, ready .level) in
-      ap (λ (a : Executed). ifDoneMove a (decodedMove c (decodedOf c)))
-      (done-when (ss k) (wordFor o) (c .x) (c .p) (stateWith c za) o settings (lengths-valid (k + n)) decodes (ready .streaming) (ready .za) ans) ∙
-      ap (decodedMove c) decodes ∙
-      ap (λ (b : ℕ). some (moveAt b b c o)) (ready .vector)
+      let sized : SizedAt (ss k) (wordFor o) (stateWith c za) =
+      record { vector = rw (ready .vector) valid; level = omega (arith, ready .level); x = length-set (replicate 32 0) 12 (k + n); z = rw (ready .vector) (ready .vectors); p = rw (ready .vector) (ready .predicates); za = rw (ready .vector) long; memory = omega (arith, ready .address) } in
+      ap (λ (a : Executed). ifDone a none (decodedMove c (decodedOf c))) (operation-answer (ss k) (wordFor o) (stateWith c za) o sized decodes (ready .streaming) (ready .za) ∙ ans) ∙
+      ap (decodedMove c) decodes
 
 -- the moves of calls on slices below n, each of which is done with its own move at any ZA of a length
 list-moves : (n long : ℕ) (call : ℕ → Call) (f : ℕ → Move) → ((k : ℕ) (za : List ℕ) → k < n → length za ≡ long → moved (call k) za ≡ some (f k)) → (l : List ℕ) (rest : List Call) (za : List ℕ) → Below n l → length za ≡ long → moves (map call l ++ rest) za ≡ map f l ++ moves rest (run (map call l) za)
@@ -139,8 +133,8 @@ lists-exist B size d t ss zs ps rows columns za valid tile ready long-za eachRow
     n : ℕ
     n = slicesOf B size
 
-    few : n ≤ 256
-    few = whole size B valid .few
+    few : n ≤ maxVectorBytes
+    few = whole-elements size B valid .few
 
     inCall : ℕ → Call
     inCall = callOn n (inward size d t) ss zs ps
@@ -151,11 +145,13 @@ lists-exist B size d t ss zs ps rows columns za valid tile ready long-za eachRow
     goes-in : (k : ℕ) (a : List ℕ) → k < n → length a ≡ B * B → moved (inCall k) a ≡ some (into B B size d t k)
     goes-in k a h e =
         call-done B n ss zs ps valid k (ready k h) a e (inward size d t) (inward-decodes size d t tile) refl ∙
+        ap (λ (b : ℕ). some (into b b size d t (selected (set (replicate 32 0) 12 (k + n)) 12 0 (b / bytesOf size)))) (ready k h .vector) ∙
         ap (λ (j : ℕ). some (into B B size d t j)) (selects n k h few)
 
     comes-out : (k : ℕ) (a : List ℕ) → k < n → length a ≡ B * B → moved (outCall k) a ≡ some (out B B size (flip d) t k)
     comes-out k a h e =
         call-done B n ss zs ps valid k (ready k h) a e (outward size (flip d) t) (outward-decodes size (flip d) t tile) refl ∙
+        ap (λ (b : ℕ). some (out b b size (flip d) t (selected (set (replicate 32 0) 12 (k + n)) 12 0 (b / bytesOf size)))) (ready k h .vector) ∙
         ap (λ (j : ℕ). some (out B B size (flip d) t j)) (selects n k h few)
 
     za₁ : List ℕ
@@ -186,7 +182,7 @@ insert-moves [] after c za e = rw e (go (call-ends c za))
 insert-moves (b ∷ before) after c za e = ap (withMove (moved b za)) (insert-moves before after c (zaAfter b za) e)
 
 -- a refused call has no move
-refused-none : (c : Call) (za : List ℕ) → Refusal (outcome c za .answer) → moved c za ≡ none
+refused-none : (c : Call) (za : List ℕ) → (outcome c za .answer ≡ Done → ⊥) → moved c za ≡ none
 refused-none c za n = go (call-ends c za)
   where
     go : CallEnds c za → moved c za ≡ none

@@ -5,3 +5,4 @@ pub mod Exhibit
 pub mod Crossing
 pub mod Between
 pub mod Shown
+pub mod Runs

@@ -9,18 +9,19 @@ use native.Mathlib.Nat.{le-refl, mod-lt, mul-le-mul-right, suc-mul}
 use native.Mathlib.Omega.{arith}
 use lib.ListN.{length, getD}
 use Rattle.settings.specs.Settings.{isVectorLength}
-use Rattle.encoding.specs.Flat.{bytesOf}
-use Rattle.encoding.specs.declared.operation.ElementSize.{ElementSize}
-use Rattle.encoding.specs.declared.operation.Direction.{Direction}
+use Rattle.tiles.specs.Element.{bytesOf}
+use Rattle.tiles.specs.declared.element.ElementSize.{ElementSize}
+use Rattle.tiles.specs.declared.direction.Direction.{Direction}
 use Rattle.encoding.specs.declared.operation.Operation.{Operation}
 use Rattle.encoding.specs.declared.operation.Operation.the-variants.{MovaToTile, MovazFromTile, MovaFromArray, MovazFromArray, St1, MovaFromTile, Ld1}
 use Rattle.encoding.proofs.RangeLaws.{decoded-in-range}
-use Rattle.tiles.specs.Scatter.{scatter, all, zeros, from}
+use Rattle.general.specs.Scatter.{scatter, all, zeros, onwards}
 use Rattle.tiles.specs.Predicate.{active}
 use Rattle.tiles.specs.Tile.{sliceAt}
-use Rattle.execution.specs.Effect.{State, movedToTile, takenFromTile, zeroedInTile}
-use Rattle.tiles.proofs.LengthLaws.{whole}
-use Rattle.laws.specs.Calls.{Call, outcome, zaAfter, Move, into, out, other, moveOf, moved, vectorOf, predicateOf}
+use Rattle.semantics.specs.State.{State}
+use Rattle.semantics.specs.Effect.{writesOf, valuesOf, effectOf}
+use Rattle.tiles.proofs.LengthLaws.{whole-elements}
+use Rattle.laws.specs.Calls.{Call, outcome, zaAfter, Move, into, out, other, moveOf, moved, registerOf, predicateOf}
 use Rattle.laws.proofs.CallLaws.{DoesCall, has-move}
 
 module _ (c : Call) (za : List ℕ) where
@@ -31,7 +32,7 @@ module _ (c : Call) (za : List ℕ) where
     pub long : length za ≡ B * S
     pub tile : t < bytesOf size
     pub within : k < B / bytesOf size
-    pub is : zaAfter c za ≡ scatter (sliceAt S (bytesOf size) t d k) (active (c .p) (predicateOf c * (S / 8)) (bytesOf size)) (λ (j : ℕ). getD (c .z) (vectorOf c * S + j) 0) B za
+    pub is : zaAfter c za ≡ scatter (sliceAt S (bytesOf size) t d k) (active (c .p) (predicateOf c * (S / 8)) (bytesOf size)) (λ (j : ℕ). getD (c .z) (registerOf c * S + j) 0) B za
 
   -- a call that takes slice k of a tile
   pub record Out (S B : ℕ) (size : ElementSize) (d : Direction) (t k : ℕ) : Type 0 where
@@ -39,8 +40,8 @@ module _ (c : Call) (za : List ℕ) where
     pub long : length za ≡ B * S
     pub tile : t < bytesOf size
     pub within : k < B / bytesOf size
-    pub room : vectorOf c * S + B ≤ length (c .z)
-    pub takes : outcome c za .state .z ≡ scatter (from (vectorOf c * S)) all (λ (j : ℕ). getD za (sliceAt S (bytesOf size) t d k j) 0) B (c .z)
+    pub room : registerOf c * S + B ≤ length (c .z)
+    pub takes : outcome c za .state .z ≡ scatter (onwards (registerOf c * S)) all (λ (j : ℕ). getD za (sliceAt S (bytesOf size) t d k j) 0) B (c .z)
     pub is : zaAfter c za ≡ scatter (sliceAt S (bytesOf size) t d k) all zeros B za
 
   abbrev Facts : Move → Type 0
@@ -49,7 +50,7 @@ module _ (c : Call) (za : List ℕ) where
   Facts other = Unit {0}
 
   slice-within : (B : ℕ) (size : ElementSize) (a : ℕ) → isVectorLength B ≡ true → a % (B / bytesOf size) < B / bytesOf size
-  slice-within B size a h = mod-lt a (whole size B h .slices)
+  slice-within B size a h = mod-lt a (whole-elements size B h .slices)
 
   register-room : (v B : ℕ) (l : List ℕ) → v < 32 → length l ≡ 32 * B → v * B + B ≤ length l
   register-room v B l h e =
@@ -57,25 +58,25 @@ module _ (c : Call) (za : List ℕ) where
       omega (arith, suc-mul v B)
 
   facts : (o : Operation) → DoesCall c za o → Facts (moveOf c o)
-  unfolding movedToTile takenFromTile zeroedInTile
+  unfolding writesOf valuesOf effectOf
   facts (MovaToTile o) d =
       let r = decoded-in-range (c .word) (c .settings .level) (MovaToTile o) (d .decoded) in
       record {
-        vector = d .vector;
+        vector = d .sized .vector;
         fits = le-refl (c .settings .«vector_bytes»);
-        long = d .lengths .za;
-        tile = r .tile;
-        within = slice-within _ (o .size) _ (d .vector);
+        long = d .sized .za;
+        tile = r .slice .tile;
+        within = slice-within _ (o .slice .size) _ (d .sized .vector);
         is = rw (d .decoded) (ap (λ (t : State). t .za) (d .state));
       }
   facts (MovazFromTile o) d =
       let r = decoded-in-range (c .word) (c .settings .level) (MovazFromTile o) (d .decoded) in
       record {
-        vector = d .vector;
-        long = d .lengths .za;
-        tile = r .tile;
-        within = slice-within _ (o .size) _ (d .vector);
-        room = rw (d .decoded) (register-room (o .zd) (c .settings .«vector_bytes») (c .z) (r .vector) (d .lengths .z));
+        vector = d .sized .vector;
+        long = d .sized .za;
+        tile = r .slice .tile;
+        within = slice-within _ (o .slice .size) _ (d .sized .vector);
+        room = rw (d .decoded) (register-room (o .zd) (c .settings .«vector_bytes») (c .z) (r .vector) (d .sized .z));
         takes = rw (d .decoded) (ap (λ (t : State). t .z) (d .state));
         is = ap (λ (t : State). t .za) (d .state);
       }

@@ -11,17 +11,14 @@ use native.Mathlib.Omega.{arith}
 use lib.Dec.{eqb}
 use lib.ListN.{getD}
 use borrow.Author.Tests.{eqb-true, eqb-false, eq-eqb, ne-eqb}
-use Rattle.encoding.specs.declared.operation.Direction.{Direction}
-use Rattle.tiles.specs.Scatter.{scatter}
+use Rattle.general.proofs.BoolLaws.{by-test}
+use Rattle.tiles.specs.declared.direction.Direction.{Direction}
+use Rattle.general.specs.Scatter.{scatter}
 use Rattle.tiles.specs.Tile.{byteOf, sliceAt, Outside}
 use Rattle.tiles.proofs.SliceLaws.{written-beside, written-outside}
 use Rattle.laws.specs.Calls.{Call, zaAfter, run, Move, moveOf, moved, moves}
-use Rattle.laws.specs.Crossing.{times}
+use Rattle.laws.specs.Crossing.{occurrences}
 use Rattle.laws.proofs.CallLaws.{CallEnds, moves-by, rests, call-ends, none-some, some-same, cons-same, nil-cons}
-
-pub by-test : (b : Bool) → (b ≡ true) ⊎ (b ≡ false)
-by-test true = inl refl
-by-test false = inr refl
 
 -- ---- a list of calls with the slices that its moves name
 
@@ -45,13 +42,13 @@ trace f (c ∷ cs) za l e = go l e (call-ends c za) (λ l. trace f cs (zaAfter c
         let g = cons-same p in
         went (q ∙ ap some (g .0)) (k l (g .1))
 
-pub times-here : (k x : ℕ) (l : List ℕ) → x ≡ k → times k (x ∷ l) ≡ suc (times k l)
-unfolding times
-times-here k x l e = rw (eq-eqb x k e)
+pub occurrences-here : (k x : ℕ) (l : List ℕ) → x ≡ k → occurrences k (x ∷ l) ≡ suc (occurrences k l)
+unfolding occurrences
+occurrences-here k x l e = rw (eq-eqb x k e)
 
-pub times-past : (k x : ℕ) (l : List ℕ) → (x ≡ k → ⊥) → times k (x ∷ l) ≡ times k l
-unfolding times
-times-past k x l n = rw (ne-eqb x k n)
+pub occurrences-past : (k x : ℕ) (l : List ℕ) → (x ≡ k → ⊥) → occurrences k (x ∷ l) ≡ occurrences k l
+unfolding occurrences
+occurrences-past k x l n = rw (ne-eqb x k n)
 
 module _ (S B m n : ℕ) (size : n * m ≡ B) (fit : B ≤ S) (t : ℕ) (tile : t < m) (d : Direction) where
   -- a call writes within slice k
@@ -68,14 +65,14 @@ module _ (S B m n : ℕ) (size : n * m ≡ B) (fit : B ≤ S) (t : ℕ) (tile : 
         rw (w .is) (written-beside S B m n size fit t tile d (w .on) (w .val) za x k e i (w .within) hk he hi (λ r. ne (sym r)))
 
     -- a slice that no done call names is not the next one, nor among those after it
-    not-next : (k x : ℕ) (l : List ℕ) → times k (x ∷ l) ≡ 0 → x ≡ k → ⊥
-    not-next k x l z y = omega (arith, times-here k x l y)
+    not-next : (k x : ℕ) (l : List ℕ) → occurrences k (x ∷ l) ≡ 0 → x ≡ k → ⊥
+    not-next k x l z y = omega (arith, occurrences-here k x l y)
 
-    not-later : (k x : ℕ) (l : List ℕ) → times k (x ∷ l) ≡ 0 → times k l ≡ 0
-    not-later k x l z = sym (times-past k x l (not-next k x l z)) ∙ z
+    not-later : (k x : ℕ) (l : List ℕ) → occurrences k (x ∷ l) ≡ 0 → occurrences k l ≡ 0
+    not-later k x l z = sym (occurrences-past k x l (not-next k x l z)) ∙ z
 
     -- the bytes of a slice that no done call names stay
-    pub unnamed-stays : {cs : List Call} {za l : List ℕ} (k : ℕ) → k < n → Trace f cs za l → times k l ≡ 0 → (e i : ℕ) → e < n → i < m → getD (run cs za) (byteOf S m t d k e i) 0 ≡ getD za (byteOf S m t d k e i) 0
+    pub unnamed-stays : {cs : List Call} {za l : List ℕ} (k : ℕ) → k < n → Trace f cs za l → occurrences k l ≡ 0 → (e i : ℕ) → e < n → i < m → getD (run cs za) (byteOf S m t d k e i) 0 ≡ getD za (byteOf S m t d k e i) 0
     unfolding run
     unnamed-stays k hk ended z e i he hi = refl
     unnamed-stays k hk (rested q r u) z e i he hi = unnamed-stays k hk u z e i he hi ∙ ap (λ (a : List ℕ). getD a (byteOf S m t d k e i) 0) r
@@ -94,7 +91,7 @@ module _ (S B m n : ℕ) (size : n * m ≡ B) (fit : B ≤ S) (t : ℕ) (tile : 
     -- a call of the list that is done has the move of a slice of l
     pub record Listed (l : List ℕ) (mv : Move) : Type 0 where
       pub slice : ℕ
-      pub named : times slice l ≡ 0 → ⊥
+      pub named : occurrences slice l ≡ 0 → ⊥
       pub same : mv ≡ f slice
 
     pub listed : {cs : List Call} {za l : List ℕ} → Trace f cs za l → (b a : List Call) (c : Call) (mv : Move) → cs ≡ b ++ c ∷ a → moved c (run b za) ≡ some mv → Listed l mv
@@ -149,7 +146,7 @@ module _ (S B m n : ℕ) (size : n * m ≡ B) (fit : B ≤ S) (t : ℕ) (tile : 
             ap (λ (z : Call). z ∷ b) (sym same) ∙ ap (λ (l : List Call). c ∷ l) rest
 
     -- the first call names it, and none after it
-    single-first : (c : Call) (cs : List Call) (za l : List ℕ) (k : ℕ) → k < n → moved c za ≡ some (f k) → Trace f cs (zaAfter c za) l → times k l ≡ 0 → Single (c ∷ cs) za k
+    single-first : (c : Call) (cs : List Call) (za l : List ℕ) (k : ℕ) → k < n → moved c za ≡ some (f k) → Trace f cs (zaAfter c za) l → occurrences k l ≡ 0 → Single (c ∷ cs) za k
     unfolding run
     single-first c cs za l k hk q u z =
         record {
@@ -167,19 +164,19 @@ module _ (S B m n : ℕ) (size : n * m ≡ B) (fit : B ≤ S) (t : ℕ) (tile : 
         only [] a c′ e r = refl
         only (y ∷ b) a c′ e r =
             let h = listed u b a c′ (f k) (cons-same e .1) (ap (λ (y : Call). moved c′ (run b (zaAfter y za))) (cons-same e .0) ∙ r) in
-            absurd (h .named (ap (λ (j : ℕ). times j l) (sym (f-same k (h .slice) (h .same))) ∙ z))
+            absurd (h .named (ap (λ (j : ℕ). occurrences j l) (sym (f-same k (h .slice) (h .same))) ∙ z))
 
-    pub single : {cs : List Call} {za l : List ℕ} (k : ℕ) → k < n → Trace f cs za l → times k l ≡ 1 → Single cs za k
-    unfolding times
+    pub single : {cs : List Call} {za l : List ℕ} (k : ℕ) → k < n → Trace f cs za l → occurrences k l ≡ 1 → Single cs za k
+    unfolding occurrences
     single k hk ended o = absurd (omega arith)
     single k hk (rested {c = c} {cs = cs} {za = za} q r u) o =
         single-later c cs za k (λ y. none-some (sym q ∙ y)) (λ e i he hi. ap (λ (a : List ℕ). getD a (byteOf S m t d k e i) 0) r) (single k hk u o)
     single k hk (went {c = c} {cs = cs} {za = za} {x = x} {l = l} q u) o = go (by-test (eqb x k)) (single k hk u)
       where
-        go : (eqb x k ≡ true) ⊎ (eqb x k ≡ false) → (times k l ≡ 1 → Single cs (zaAfter c za) k) → Single (c ∷ cs) za k
+        go : (eqb x k ≡ true) ⊎ (eqb x k ≡ false) → (occurrences k l ≡ 1 → Single cs (zaAfter c za) k) → Single (c ∷ cs) za k
         go (inl y) v =
             let e = eqb-true x k y in
-            single-first c cs za l k hk (q ∙ ap (λ (j : ℕ). some (f j)) e) u (let h = times-here k x l e in omega arith)
+            single-first c cs za l k hk (q ∙ ap (λ (j : ℕ). some (f j)) e) u (let h = occurrences-here k x l e in omega arith)
         go (inr y) v =
             let ne = eqb-false x k y in
-            single-later c cs za k (λ r. ne (f-same x k (some-same (sym q ∙ r)))) (beside-call c za x k q hk ne) (v (sym (times-past k x l ne) ∙ o))
+            single-later c cs za k (λ r. ne (f-same x k (some-same (sym q ∙ r)))) (beside-call c za x k q hk ne) (v (sym (occurrences-past k x l ne) ∙ o))

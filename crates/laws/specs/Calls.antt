@@ -6,17 +6,18 @@ use mathlib.Core.List.{List, [], _∷_, map}
 use mathlib.Core.Option.{Option, none, some}
 use Rattle.settings.specs.declared.Settings.{Settings}
 use Rattle.encoding.specs.Codec.{decodeOf}
-use Rattle.encoding.specs.declared.operation.ElementSize.{ElementSize}
-use Rattle.encoding.specs.declared.operation.Direction.{Direction}
+use Rattle.tiles.specs.declared.element.ElementSize.{ElementSize}
+use Rattle.tiles.specs.declared.direction.Direction.{Direction}
+use Rattle.tiles.specs.Slice.{sliceNumberOf}
+use Rattle.tiles.specs.declared.slice.TileSlice.{TileSlice}
 use Rattle.encoding.specs.declared.operation.Operation.{Operation}
 use Rattle.encoding.specs.declared.operation.Operation.the-variants.{MovaToTile, MovazFromTile, MovaFromArray, MovazFromArray, St1, MovaFromTile, Ld1}
 use Rattle.encoding.specs.declared.operation.Decoded.{Decoded}
 use Rattle.encoding.specs.declared.operation.Decoded.the-variants as decoded
-use Rattle.execution.specs.declared.answer.Executed.{Executed}
-use Rattle.execution.specs.declared.answer.Executed.the-variants.{Done, BadSettings, BadLengths, Undecodable, StreamingOff, ZaOff, StackMisaligned, OutsideMemory}
-use Rattle.execution.specs.Answer.{executedNumber}
-use Rattle.execution.specs.Effect.{State, sliceIn, sliceOut}
-use Rattle.execution.specs.Execute.{Outcome, strideOf, executeOf}
+use Rattle.semantics.specs.Answer.{executedNumber}
+use Rattle.semantics.specs.State.{State, stateOf}
+use Rattle.semantics.specs.Execute.{Outcome, ifDone, executeOf}
+use Rattle.settings.specs.Settings.{strideOf}
 
 -- what a call has of its own: all but ZA, of any content and length
 pub record Call : Type 0 where
@@ -28,11 +29,11 @@ pub record Call : Type 0 where
   pub memory : List ℕ
 
 abbrev pub stateWith : Call → List ℕ → State
-stateWith c za = record { z = c .z; za = za; memory = c .memory }
+stateWith c za = stateOf (c .x) (c .z) (c .p) za (c .memory)
 
 -- the call's outcome at the ZA that it meets
 abbrev pub outcome : Call → List ℕ → Outcome
-outcome c za = executeOf (c .settings) (c .word) (c .x) (c .p) (stateWith c za)
+outcome c za = executeOf (c .settings) (c .word) (stateWith c za)
 
 abbrev pub zaAfter : Call → List ℕ → List ℕ
 zaAfter c za = outcome c za .state .za
@@ -57,37 +58,29 @@ pub data Move : Type 0 where
   out : (S B : ℕ) (size : ElementSize) (d : Direction) (t slice : ℕ) → Move
   other : Move
 
-abbrev pub moveAt : ℕ → ℕ → Call → Operation → Move
-moveAt S B c (MovaToTile o) = into S B (o .size) (o .direction) (o .zad) (sliceIn S B (c .x) (c .p) o)
-moveAt S B c (MovazFromTile o) = out S B (o .size) (o .direction) (o .zan) (sliceOut S B (c .x) (c .p) o)
-moveAt S B c (MovaFromArray o) = other
-moveAt S B c (MovazFromArray o) = other
-moveAt S B c (St1 o) = other
-moveAt S B c (MovaFromTile o) = other
-moveAt S B c (Ld1 o) = other
+-- the move of the slice that a call's word names, with the stride and the vector length of the call's own settings
+abbrev pub sliceMove : (ℕ → ℕ → ElementSize → Direction → ℕ → ℕ → Move) → Call → TileSlice → Move
+sliceMove move c o =
+    let B = c .settings .«vector_bytes» in
+    move (strideOf (c .settings)) B (o .size) (o .direction) (o .tile) (sliceNumberOf B (c .x) o)
 
--- with the stride and the vector length of the call's own settings
 abbrev pub moveOf : Call → Operation → Move
-moveOf c o = moveAt (strideOf (c .settings)) (c .settings .«vector_bytes») c o
+moveOf c (MovaToTile o) = sliceMove into c (o .slice)
+moveOf c (MovazFromTile o) = sliceMove out c (o .slice)
+moveOf c (MovaFromArray o) = other
+moveOf c (MovazFromArray o) = other
+moveOf c (St1 o) = other
+moveOf c (MovaFromTile o) = other
+moveOf c (Ld1 o) = other
 
 abbrev pub decodedMove : Call → Decoded → Option Move
 decodedMove c (decoded.Done o) = some (moveOf c o)
 decodedMove c decoded.BadLevel = none
 decodedMove c decoded.Undecodable = none
 
-abbrev pub ifDoneMove : Executed → Option Move → Option Move
-ifDoneMove Done m = m
-ifDoneMove BadSettings m = none
-ifDoneMove BadLengths m = none
-ifDoneMove Undecodable m = none
-ifDoneMove StreamingOff m = none
-ifDoneMove ZaOff m = none
-ifDoneMove StackMisaligned m = none
-ifDoneMove (OutsideMemory a) m = none
-
 -- the move of a call that is done, nothing for one that is refused
 unfoldable pub moved : Call → List ℕ → Option Move
-moved c za = ifDoneMove (outcome c za .answer) (decodedMove c (decodedOf c))
+moved c za = ifDone (outcome c za .answer) none (decodedMove c (decodedOf c))
 
 abbrev pub withMove : Option Move → List Move → List Move
 withMove none l = l
@@ -99,16 +92,16 @@ moves [] za = []
 moves (c ∷ cs) za = withMove (moved c za) (moves cs (zaAfter c za))
 
 -- the register numbers of a word that moves into a tile, or out of it with zeroing: Zn or Zd, and Pg; 0 for another
-abbrev pub vectorIn : Decoded → ℕ
-vectorIn (decoded.Done (MovaToTile o)) = o .zn
-vectorIn (decoded.Done (MovazFromTile o)) = o .zd
-vectorIn (decoded.Done (MovaFromArray o)) = 0
-vectorIn (decoded.Done (MovazFromArray o)) = 0
-vectorIn (decoded.Done (St1 o)) = 0
-vectorIn (decoded.Done (MovaFromTile o)) = 0
-vectorIn (decoded.Done (Ld1 o)) = 0
-vectorIn decoded.BadLevel = 0
-vectorIn decoded.Undecodable = 0
+abbrev pub registerIn : Decoded → ℕ
+registerIn (decoded.Done (MovaToTile o)) = o .zn
+registerIn (decoded.Done (MovazFromTile o)) = o .zd
+registerIn (decoded.Done (MovaFromArray o)) = 0
+registerIn (decoded.Done (MovazFromArray o)) = 0
+registerIn (decoded.Done (St1 o)) = 0
+registerIn (decoded.Done (MovaFromTile o)) = 0
+registerIn (decoded.Done (Ld1 o)) = 0
+registerIn decoded.BadLevel = 0
+registerIn decoded.Undecodable = 0
 
 abbrev pub predicateIn : Decoded → ℕ
 predicateIn (decoded.Done (MovaToTile o)) = o .pg
@@ -121,8 +114,8 @@ predicateIn (decoded.Done (Ld1 o)) = 0
 predicateIn decoded.BadLevel = 0
 predicateIn decoded.Undecodable = 0
 
-abbrev pub vectorOf : Call → ℕ
-vectorOf c = vectorIn (decodedOf c)
+abbrev pub registerOf : Call → ℕ
+registerOf c = registerIn (decodedOf c)
 
 abbrev pub predicateOf : Call → ℕ
 predicateOf c = predicateIn (decodedOf c)

@@ -8,23 +8,23 @@ use mathlib.Core.List.{List, [], _∷_, _++_, map}
 use mathlib.Core.Option.{some}
 use lib.Dec.{eqb}
 use lib.ListN.{length, getD}
-use Rattle.encoding.specs.Flat.{bytesOf}
-use Rattle.encoding.specs.declared.operation.ElementSize.{ElementSize}
-use Rattle.encoding.specs.declared.operation.Direction.{Direction}
-use Rattle.tiles.specs.Scatter.{pick}
+use Rattle.tiles.specs.Element.{bytesOf}
+use Rattle.tiles.specs.declared.element.ElementSize.{ElementSize}
+use Rattle.tiles.specs.declared.direction.Direction.{Direction}
 use Rattle.tiles.specs.Predicate.{bit}
-use Rattle.tiles.specs.Tile.{flip, byteAt, byteOf, Outside}
-use Rattle.laws.specs.Calls.{Call, outcome, run, Move, into, out, moved, moves, vectorOf, predicateOf}
+use Rattle.tiles.specs.Direction.{flip}
+use Rattle.tiles.specs.Tile.{byteAt, byteOf, Outside}
+use Rattle.laws.specs.Calls.{Call, outcome, run, Move, into, out, moved, moves, registerOf, predicateOf}
 
 -- how often k stands in a list
-unfoldable pub times : ℕ → List ℕ → ℕ
-times k [] = 0
-times k (x ∷ l) = cond (eqb x k) (suc (times k l)) (times k l)
+unfoldable pub occurrences : ℕ → List ℕ → ℕ
+occurrences k [] = 0
+occurrences k (x ∷ l) = cond (eqb x k) (suc (occurrences k l)) (occurrences k l)
 
 -- the numbers below n, each once and in any order
 pub record EachOnce (n : ℕ) (l : List ℕ) : Type 0 where
   pub many : length l ≡ n
-  pub once : (k : ℕ) → k < n → times k l ≡ 1
+  pub once : (k : ℕ) → k < n → occurrences k l ≡ 1
 
 -- the slices of a tile, and so the elements of a slice
 abbrev pub slicesOf : ℕ → ElementSize → ℕ
@@ -59,9 +59,9 @@ pub record Crossed (S B : ℕ) (size : ElementSize) (d : Direction) (t : ℕ) (c
   -- Zn moved to row j, as it stood at that move, if that move's predicate Pg was active at element k; if not, it is the tile's
   -- first content at row j, element k.
   pub back : (k j i : ℕ) (hk : k < slicesOf B size) (hj : j < slicesOf B size) → i < bytesOf size →
-      getD (outcome (column k hk .call) (run (column k hk .before) za) .state .z) (vectorOf (column k hk .call) * S + (j * bytesOf size + i)) 0 ≡
-      pick (bit (row j hj .call .p) (predicateOf (row j hj .call) * (S / 8)) (k * bytesOf size))
-      (getD (row j hj .call .z) (vectorOf (row j hj .call) * S + (k * bytesOf size + i)) 0)
+      getD (outcome (column k hk .call) (run (column k hk .before) za) .state .z) (registerOf (column k hk .call) * S + (j * bytesOf size + i)) 0 ≡
+      cond (bit (row j hj .call .p) (predicateOf (row j hj .call) * (S / 8)) (k * bytesOf size))
+      (getD (row j hj .call .z) (registerOf (row j hj .call) * S + (k * bytesOf size + i)) 0)
       (getD za (byteOf S (bytesOf size) t d j k i) 0)
   -- afterwards every byte of the tile lies in ZA and is zero, every other byte is as at the start, and so is the length
   pub inside : (r k i : ℕ) → r < slicesOf B size → k < slicesOf B size → i < bytesOf size → byteAt S (bytesOf size) t r k i < length (run cs za)

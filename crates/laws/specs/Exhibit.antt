@@ -4,32 +4,32 @@
 -- Assumes nothing.
 use Prim.Native.Nat.{ℕ, zero, suc, _+_, _*_, _/_, _^_, _<_, _≤_}
 use mathlib.Core.Path.{_≡_}
-use mathlib.Core.Bool.{Bool, true, false}
+use mathlib.Core.Bool.{true, false}
 use mathlib.Core.List.{List, [], _∷_, _++_, map}
 use lib.ListN.{length, set, replicate}
-use Rattle.settings.specs.Settings.{isVectorLength, maxLevel}
+use Rattle.settings.specs.Settings.{isVectorLength, maxLevel, settingsOf}
 use Rattle.settings.specs.declared.Settings.{Settings}
-use Rattle.encoding.specs.Flat.{bytesOf}
+use Rattle.tiles.specs.Element.{bytesOf}
 use Rattle.encoding.specs.Answer.{encodedWord}
 use Rattle.encoding.specs.Codec.{encodeOf}
-use Rattle.encoding.specs.declared.operation.ElementSize.{ElementSize}
-use Rattle.encoding.specs.declared.operation.ElementSize.the-variants.{Bits32}
-use Rattle.encoding.specs.declared.operation.Direction.{Direction}
-use Rattle.encoding.specs.declared.operation.Direction.the-variants.{Horizontal, Vertical}
+use Rattle.tiles.specs.declared.element.ElementSize.{ElementSize}
+use Rattle.tiles.specs.declared.element.ElementSize.the-variants.{Bits32}
+use Rattle.tiles.specs.declared.direction.Direction.{Direction}
+use Rattle.tiles.specs.declared.direction.Direction.the-variants.{Horizontal, Vertical}
 use Rattle.encoding.specs.declared.operation.Operation.{Operation}
 use Rattle.encoding.specs.declared.operation.Operation.the-variants.{MovaToTile, MovazFromTile}
-use Rattle.tiles.specs.Tile.{flip}
-use Rattle.execution.specs.declared.answer.Executed.the-variants.{Done}
-use Rattle.execution.specs.ExampleBuffers.{bytesFrom, settingsAt, zaAt}
+use Rattle.tiles.specs.Direction.{flip}
+use Rattle.semantics.specs.declared.answer.Executed.the-variants.{Done}
+use Rattle.semantics.specs.ExampleBuffers.{bytesFrom, switched, settingsAt, zaAt}
 use Rattle.laws.specs.Calls.{Call, outcome, run, numbersAt}
 use Rattle.laws.specs.Crossing.{EachOnce, slicesOf, Crosses}
 
 -- the words: index register 12 with offset 0, predicate 0, register 0
 abbrev pub inward : ElementSize → Direction → ℕ → Operation
-inward size d t = MovaToTile (record { size = size; direction = d; rs = 12; pg = 0; zn = 0; zad = t; off = 0 })
+inward size d t = MovaToTile (record { slice = record { size = size; direction = d; index = 12; tile = t; offset = 0 }; pg = 0; zn = 0 })
 
 abbrev pub outward : ElementSize → Direction → ℕ → Operation
-outward size d t = MovazFromTile (record { size = size; direction = d; rs = 12; zan = t; off = 0; zd = 0 })
+outward size d t = MovazFromTile (record { slice = record { size = size; direction = d; index = 12; tile = t; offset = 0 }; zd = 0 })
 
 abbrev pub wordFor : Operation → ℕ
 wordFor o = encodedWord (encodeOf o)
@@ -101,9 +101,6 @@ shownP k = bytesFrom k 64
 abbrev pub refusedAt : Settings → ℕ → List ℕ → Call
 refusedAt s w x = record { settings = s; word = w; x = x; z = shownZ 0; p = shownP 0; memory = [] }
 
-abbrev pub switched : Bool → Bool → Settings
-switched streaming za = record { «vector_bytes» = 32; level = 3; streaming = streaming; za = za; «memory_address» = 0 }
-
 -- vectors of 17 bytes; too few numbers in X; a word that is no instruction; streaming off; ZA off; a stack pointer that is no
 -- multiple of 16; an active store with no memory; loads in place of these two stores
 abbrev pub refusedCalls : List Call
@@ -111,8 +108,8 @@ refusedCalls =
     refusedAt (settingsAt 17 0) 0xC0000000 (replicate 32 0) ∷
     refusedAt (settingsAt 32 0) 0xC0000000 [] ∷
     refusedAt (settingsAt 32 0) 0xC0000010 (replicate 32 0) ∷
-    refusedAt (switched false true) 0xC0000000 (replicate 32 0) ∷
-    refusedAt (switched true false) 0xC0000000 (replicate 32 0) ∷
+    refusedAt (switched (settingsOf 32 3) false true) 0xC0000000 (replicate 32 0) ∷
+    refusedAt (switched (settingsOf 32 3) true false) 0xC0000000 (replicate 32 0) ∷
     refusedAt (settingsAt 32 0) 0xE03F03E0 (set (replicate 32 0) 31 0x1008) ∷
     refusedAt (settingsAt 32 0) 0xE0220020 (replicate 32 0) ∷
     refusedAt (settingsAt 32 0) 0xE01F03E0 (set (replicate 32 0) 31 0x1008) ∷

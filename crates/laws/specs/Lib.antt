@@ -2,4 +2,5 @@
 pub mod Calls
 pub mod Crossing
 pub mod Between
+pub mod Runs
 pub mod Exhibit

@@ -5,9 +5,9 @@ use mathlib.Core.Path.{_≡_, ap}
 use mathlib.Core.Bool.{true, false}
 use mathlib.Core.List.{List, _∷_}
 use native.Mathlib.Omega.{arith}
-use Rattle.encoding.proofs.BoolLaws.{refute}
-use Rattle.tiles.specs.Least.{least}
-use Rattle.tiles.specs.Scatter.{scatter}
+use Rattle.general.proofs.BoolLaws.{refute}
+use Rattle.general.specs.Least.{least}
+use Rattle.general.specs.Scatter.{scatter}
 use Rattle.planner.specs.Tile.{tileOf, isSize, shares, isFree, isValid, isAmong, without}
 use Rattle.planner.specs.Held.{answerNumber, validHeld, takeOf, giveUpOf}
 use Rattle.planner.specs.declared.tile.Tile.{Tile}

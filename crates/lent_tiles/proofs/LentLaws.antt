@@ -1,6 +1,6 @@
 -- Laws of specs/Lent.antt: held tiles read from an array and written to it.
 -- Assumes nothing.
-use Prim.Native.Nat.{ℕ, zero, suc, _+_, _*_, _-_, _/_, _%_, _<_, _≤_}
+use Prim.Native.Nat.{ℕ, zero, suc, _+_, _*_, _/_, _%_, _<_, _≤_}
 use mathlib.Core.Path.{_≡_, refl, sym, ap, subst, _∙_}
 use mathlib.Core.Bool.{Bool, true, false, cond, not, _&&_}
 use mathlib.Core.List.{List, [], _∷_, _++_, append-nil}
@@ -14,12 +14,12 @@ use lib.Dec.{ltb}
 use lib.ListN.{length, length-append, getD, set, replicate, List·getD-append}
 use lib.Seq.{getD-append-seam, length-take-le}
 use borrow.Author.Tests.{leb-true, ltb-true, lt-leb, le-leb}
-use Rattle.encoding.proofs.BoolLaws.{by-test, clash}
+use Rattle.general.proofs.BoolLaws.{by-test, clash}
 use Rattle.settings.specs.Settings.{isVectorLength}
-use Rattle.tiles.specs.Scatter.{scatter, all}
-use Rattle.tiles.proofs.ScatterLaws.{scatter-more}
+use Rattle.general.specs.Scatter.{scatter, all}
+use Rattle.general.proofs.ScatterLaws.{scatter-more}
 use Rattle.planner.specs.Tile.{noTile, isSize, isTile}
-use Rattle.planner.specs.Held.{answerNumber, heldOf, heldFrom, validHeld, refused, takeOf, giveUpOf}
+use Rattle.planner.specs.Held.{answerNumber, heldTiles, heldFrom, validHeld, refused, takeOf, giveUpOf}
 use Rattle.planner.specs.Bytes.{Vectors}
 use Rattle.planner.specs.Claims.{Sixteen}
 use Rattle.planner.specs.declared.tile.Tile.{Tile}
@@ -33,52 +33,52 @@ use Rattle.planner.proofs.HeldLaws.{valid-held, valid-tiles}
 use Rattle.planner.proofs.RoomLaws.{joined-from, without-length}
 use Rattle.planner.proofs.AnswerLaws.{give-up-among}
 use Rattle.planner.proofs.Claims.{taking-takes}
-use Rattle.lent_tiles.specs.Lent.{tileIn, tilesIn, heldIn, isDone, hasPlaces, ifPlaced, takeIn, giveUpIn, numberIn, heldOut, Placed, Settles, TakesTile, GivesUpTile}
+use Rattle.lent_tiles.specs.Lent.{tileAtPlace, tilesIn, heldIn, isDone, hasPlaces, ifPlaced, takeIn, giveUpIn, numberIn, heldOut, FitsPlaces, Settles, TakesTile, GivesUpTile}
 
 -- ---- reading
 
 pub tilesIn-length : (ns : List ℕ) (n : ℕ) → length (tilesIn ns n) ≡ n
 unfolding tilesIn
 tilesIn-length ns zero = refl
-tilesIn-length ns (suc n) = length-append (tilesIn ns n) (tileIn ns n ∷ []) ∙ omega (arith, tilesIn-length ns n)
+tilesIn-length ns (suc n) = length-append (tilesIn ns n) (tileAtPlace ns n ∷ []) ∙ omega (arith, tilesIn-length ns n)
 
-tilesIn-at : (ns : List ℕ) (n k : ℕ) → k < n → getD (tilesIn ns n) k noTile ≡ tileIn ns k
+tilesIn-at : (ns : List ℕ) (n k : ℕ) → k < n → getD (tilesIn ns n) k noTile ≡ tileAtPlace ns k
 unfolding tilesIn
 tilesIn-at ns zero k w = absurd (omega arith)
 tilesIn-at ns (suc n) k w = go (ℕ-discrete k n) (λ v. tilesIn-at ns n k v)
   where
-    go : Dec (k ≡ n) → (k < n → getD (tilesIn ns n) k noTile ≡ tileIn ns k) → getD (tilesIn ns n ++ (tileIn ns n ∷ [])) k noTile ≡ tileIn ns k
+    go : Dec (k ≡ n) → (k < n → getD (tilesIn ns n) k noTile ≡ tileAtPlace ns k) → getD (tilesIn ns n ++ (tileAtPlace ns n ∷ [])) k noTile ≡ tileAtPlace ns k
     go (yes q) ih =
-        ap (λ (j : ℕ). getD (tilesIn ns n ++ (tileIn ns n ∷ [])) j noTile) (q ∙ sym (tilesIn-length ns n))
-        ∙ getD-append-seam (tilesIn ns n) (tileIn ns n) [] noTile ∙ ap (tileIn ns) (sym q)
-    go (no q) ih = List·getD-append (tilesIn ns n) (tileIn ns n ∷ []) noTile k (rw (tilesIn-length ns n) (omega arith)) ∙ ih (omega arith)
+        ap (λ (j : ℕ). getD (tilesIn ns n ++ (tileAtPlace ns n ∷ [])) j noTile) (q ∙ sym (tilesIn-length ns n))
+        ∙ getD-append-seam (tilesIn ns n) (tileAtPlace ns n) [] noTile ∙ ap (tileAtPlace ns) (sym q)
+    go (no q) ih = List·getD-append (tilesIn ns n) (tileAtPlace ns n ∷ []) noTile k (rw (tilesIn-length ns n) (omega arith)) ∙ ih (omega arith)
 
 -- the record while the loop is at place i
-abbrev pub filled : List ℕ → ℕ → ℕ → Held
-filled ns n i = record { tiles = heldFrom (tilesIn ns i) .tiles; count = n }
+abbrev pub filledTo : List ℕ → ℕ → ℕ → Held
+filledTo ns n i = record { tiles = heldFrom (tilesIn ns i) .tiles; count = n }
 
-pub filled-none : (ns : List ℕ) (n : ℕ) → record { tiles = replicate 16 noTile; count = n } ≡ filled ns n 0
+pub filled-none : (ns : List ℕ) (n : ℕ) → record { tiles = replicate 16 noTile; count = n } ≡ filledTo ns n 0
 unfolding tilesIn
 filled-none ns n = refl
 
-pub filled-more : (ns : List ℕ) (n i : ℕ) (h : Held) → h ≡ filled ns n i → i < 16 → record { tiles = set (h .tiles) i (tileIn ns i); count = h .count } ≡ filled ns n (i + 1)
+pub filled-more : (ns : List ℕ) (n i : ℕ) (h : Held) → h ≡ filledTo ns n i → i < 16 → record { tiles = set (h .tiles) i (tileAtPlace ns i); count = h .count } ≡ filledTo ns n (i + 1)
 unfolding tilesIn
-filled-more ns n i h e w = ap (λ (k : Held). record { tiles = set (k .tiles) i (tileIn ns i); count = k .count }) e ∙ (λ j. record { tiles = tiles j; count = n })
+filled-more ns n i h e w = ap (λ (k : Held). record { tiles = set (k .tiles) i (tileAtPlace ns i); count = k .count }) e ∙ (λ j. record { tiles = tiles j; count = n })
   where
     long : length (tilesIn ns i) ≡ i
     long = tilesIn-length ns i
 
-    next : tilesIn ns i ++ (tileIn ns i ∷ []) ≡ tilesIn ns (i + 1)
+    next : tilesIn ns i ++ (tileAtPlace ns i ∷ []) ≡ tilesIn ns (i + 1)
     next = rw (add-one i)
 
-    tiles : set (heldFrom (tilesIn ns i) .tiles) i (tileIn ns i) ≡ heldFrom (tilesIn ns (i + 1)) .tiles
+    tiles : set (heldFrom (tilesIn ns i) .tiles) i (tileAtPlace ns i) ≡ heldFrom (tilesIn ns (i + 1)) .tiles
     tiles =
-        ap (λ (k : ℕ). set (heldFrom (tilesIn ns i) .tiles) k (tileIn ns i)) (sym long)
-        ∙ ap (λ (k : Held). k .tiles) (joined-from (tilesIn ns i) (tileIn ns i) (omega (arith, long)))
+        ap (λ (k : ℕ). set (heldFrom (tilesIn ns i) .tiles) k (tileAtPlace ns i)) (sym long)
+        ∙ ap (λ (k : Held). k .tiles) (joined-from (tilesIn ns i) (tileAtPlace ns i) (omega (arith, long)))
         ∙ ap (λ l. heldFrom l .tiles) next
 
-pub filled-all : (ns : List ℕ) (n i : ℕ) (h : Held) → h ≡ filled ns n i → i ≡ 16 → h ≡ heldIn ns n
-filled-all ns n i h e w = e ∙ ap (filled ns n) w ∙ (λ j. record { tiles = tiles j; count = n })
+pub filled-all : (ns : List ℕ) (n i : ℕ) (h : Held) → h ≡ filledTo ns n i → i ≡ 16 → h ≡ heldIn ns n
+filled-all ns n i h e w = e ∙ ap (filledTo ns n) w ∙ (λ j. record { tiles = tiles j; count = n })
   where
     tiles : heldFrom (tilesIn ns 16) .tiles ≡ tilesIn ns 16
     tiles = rw (tilesIn-length ns 16) (append-nil (tilesIn ns 16))
@@ -142,7 +142,7 @@ unfolding isSize
 places-read ns zero v = omega arith
 places-read ns (suc k) v = go (by-test (ltb (2 * k + 1) (length ns)))
   where
-    exists : isTile (tileIn ns k) ≡ true
+    exists : isTile (tileAtPlace ns k) ≡ true
     exists =
         let p = valid-held (heldIn ns (suc k)) v in
         ap isTile (sym (tilesIn-at ns 16 k (omega (arith, p .few)))) ∙ valid-tiles (tilesIn ns 16) (suc k) 0 k (p .list) (omega arith) (omega arith) (omega (arith, p .few, tilesIn-length ns 16))
@@ -159,7 +159,7 @@ shortest : Vectors 16 16
 unfolding isVectorLength
 shortest = record { valid = refl; fit = omega arith }
 
-pub take-places : (ns : List ℕ) (n m : ℕ) → Placed ns (takeIn ns n m .answer) (takeIn ns n m .held)
+pub take-places : (ns : List ℕ) (n m : ℕ) → FitsPlaces ns (takeIn ns n m .answer) (takeIn ns n m .held)
 unfolding takeIn
 take-places ns n m = go (isDone (r .answer)) refl (hasPlaces ns (r .held .count)) refl
   where
@@ -167,20 +167,20 @@ take-places ns n m = go (isDone (r .answer)) refl (hasPlaces ns (r .held .count)
     r = takeOf (heldIn ns n) m
 
     go : (b : Bool) → isDone (r .answer) ≡ b → (c : Bool) → hasPlaces ns (r .held .count) ≡ c →
-        Placed ns (cond (b && not c) (refused BadHeld (heldIn ns n)) r .answer) (cond (b && not c) (refused BadHeld (heldIn ns n)) r .held)
+        FitsPlaces ns (cond (b && not c) (refused BadHeld (heldIn ns n)) r .answer) (cond (b && not c) (refused BadHeld (heldIn ns n)) r .held)
     go false q c s e = absurd (clash (isDone (r .answer)) e q)
     go true q false s e = absurd (clash false e refl)
     go true q true s e =
         let t = taking-takes 16 16 (heldIn ns n) m shortest (sixteen-read ns n) (done-is (r .answer) q) in
         (valid-held (r .held) (t .valid) .few, leb-true (2 * r .held .count) (length ns) s)
 
-give-up-places : (ns : List ℕ) (n : ℕ) (x : Tile) → Placed ns (giveUpIn ns n x .answer) (giveUpIn ns n x .held)
+give-up-places : (ns : List ℕ) (n : ℕ) (x : Tile) → FitsPlaces ns (giveUpIn ns n x .answer) (giveUpIn ns n x .held)
 unfolding giveUpIn
 give-up-places ns n x e =
     let h = heldIn ns n in
     let a = give-up-among h x (done-is (giveUpOf h x .answer) e) in
     let w = valid-held h (a .valid) .few in
-    let fewer = without-length (heldOf h) x in
+    let fewer = without-length (heldTiles h) x in
     let some = length-take-le n (tilesIn ns 16) (omega (arith, tilesIn-length ns 16)) in
     rw (a .is) (omega (arith, fewer, some), omega (arith, fewer, some, places-read ns n (a .valid)))
 
@@ -205,8 +205,8 @@ module _ (ns : List ℕ) (n : ℕ) (x : Tile) (h : Held) (k : GivenUp) (read : h
   unfolding giveUpIn
   given = sym (gave ∙ ap (λ (h : Held). giveUpOf h x) read)
 
-  pub given-up-places : Placed ns (k .answer) (k .held)
-  given-up-places = subst (λ (k : GivenUp). Placed ns (k .answer) (k .held)) given (give-up-places ns n x)
+  pub given-up-places : FitsPlaces ns (k .answer) (k .held)
+  given-up-places = subst (λ (k : GivenUp). FitsPlaces ns (k .answer) (k .held)) given (give-up-places ns n x)
 
   pub give-up-exports : (r : ℕ) (ns′ : List ℕ) (n′ : ℕ) → Settles ns n (k .answer) (k .held) r ns′ n′ → GivesUpTile ns n x r ns′ n′
   give-up-exports r ns′ n′ s = subst (λ (k : GivenUp). Settles ns n (k .answer) (k .held) r ns′ n′) (sym given) s

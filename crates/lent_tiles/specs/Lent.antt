@@ -9,7 +9,7 @@ use mathlib.Core.Bool.{Bool, true, false, cond, not, _&&_}
 use mathlib.Core.List.{List, [], _∷_, _++_}
 use lib.Dec.{eqb, leb, ltb}
 use lib.ListN.{length, getD}
-use Rattle.tiles.specs.Scatter.{scatter, all}
+use Rattle.general.specs.Scatter.{scatter, all}
 use Rattle.planner.specs.Tile.{tileOf, noTile}
 use Rattle.planner.specs.Held.{answerNumber, refused, takeOf, giveUpOf}
 use Rattle.planner.specs.declared.tile.Tile.{Tile}
@@ -22,13 +22,13 @@ use Rattle.planner.specs.declared.answer.GivenUp.{GivenUp}
 -- ---- reading
 
 -- the tile at place i of an array
-abbrev pub tileIn : List ℕ → ℕ → Tile
-tileIn ns i = cond (ltb (2 * i + 1) (length ns)) (tileOf (getD ns (2 * i) 0) (getD ns (2 * i + 1) 0)) noTile
+abbrev pub tileAtPlace : List ℕ → ℕ → Tile
+tileAtPlace ns i = cond (ltb (2 * i + 1) (length ns)) (tileOf (getD ns (2 * i) 0) (getD ns (2 * i + 1) 0)) noTile
 
 -- the tiles at its first n places
 unfoldable pub tilesIn : List ℕ → ℕ → List Tile
 tilesIn ns zero = []
-tilesIn ns (suc n) = tilesIn ns n ++ (tileIn ns n ∷ [])
+tilesIn ns (suc n) = tilesIn ns n ++ (tileAtPlace ns n ∷ [])
 
 -- the record that array and count name
 abbrev pub heldIn : List ℕ → ℕ → Held
@@ -67,8 +67,8 @@ unfoldable pub heldOut : List ℕ → Held → List ℕ
 heldOut ns h = scatter (λ k. k) all (numberIn h) (2 * h .count) ns
 
 -- held tiles that are to be written have places
-abbrev pub Placed : List ℕ → TileAnswer → Held → Type 0
-Placed ns a h = isDone a ≡ true → (h .count ≤ 16) × (2 * h .count ≤ length ns)
+abbrev pub FitsPlaces : List ℕ → TileAnswer → Held → Type 0
+FitsPlaces ns a h = isDone a ≡ true → (h .count ≤ 16) × (2 * h .count ≤ length ns)
 
 -- array and count afterwards: those of the held tiles where the answer is done, else as they were
 abbrev pub arrayAfter : List ℕ → TileAnswer → Held → List ℕ

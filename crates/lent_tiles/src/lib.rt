@@ -7,12 +7,12 @@ ghost use mathlib.Core.Path.{_≡_};
 ghost use Prim.Native.Nat.{_*_, _<_, _≤_};
 ghost use lib.ListN.{length};
 ghost use Rattle.planner.specs.Tile.{tileOf};
-ghost use Rattle.lent_tiles.specs.Lent.{tileIn, heldIn, takeIn, heldOut, Placed, Settles, TakesTile, GivesUpTile};
+ghost use Rattle.lent_tiles.specs.Lent.{tileAtPlace, heldIn, takeIn, heldOut, FitsPlaces, Settles, TakesTile, GivesUpTile};
 
 // The tile at a place of the array; outside it the tile of 0 bytes, which does not exist.
 fn tile_in(tiles: &[u64], i: usize) -> Tile
     requires { ⌜ i < 16 ⌝ }
-    ensures { λ r. ⌜ r ≡ tileIn (now (tiles .entry)) i ⌝ }
+    ensures { λ r. ⌜ r ≡ tileAtPlace (now (tiles .entry)) i ⌝ }
 {
     let mut x = Tile {
         bytes: 0,
@@ -82,7 +82,7 @@ fn write_held(tiles: &mut [u64], held: Held)
 
 // The answer's number; array and count become those of the held tiles where it is done, and stay otherwise.
 fn settle(tiles: &mut [u64], count: &mut usize, answer: TileAnswer, held: Held) -> u32
-    requires { ⌜ Placed (now tiles) answer held ⌝ }
+    requires { ⌜ FitsPlaces (now tiles) answer held ⌝ }
     ensures { λ r. ⌜ Settles (now (tiles .entry)) (now (count .entry)) answer held r (now (tiles .exit)) (now (count .exit)) ⌝ }
 {
     let TileAnswer::Done = answer else {

@@ -9,12 +9,12 @@ use native.Mathlib.Omega.{arith}
 use lib.Arith.{digits-div, digits-mod}
 use lib.Dec.{eqb}
 use lib.ListN.{getD}
-use Rattle.encoding.specs.Flat.{bytesOf}
-use Rattle.encoding.specs.declared.operation.ElementSize.{ElementSize}
-use Rattle.encoding.specs.declared.operation.ElementSize.the-variants.{Bits8, Bits16, Bits32, Bits64, Bits128}
-use Rattle.tiles.specs.Scatter.{scatter, all, zeros, from}
+use Rattle.tiles.specs.Element.{bytesOf}
+use Rattle.tiles.specs.declared.element.ElementSize.{ElementSize}
+use Rattle.tiles.specs.declared.element.ElementSize.the-variants.{Bits8, Bits16, Bits32, Bits64, Bits128}
+use Rattle.general.specs.Scatter.{scatter, all, zeros, onwards}
 use Rattle.tiles.specs.Predicate.{active}
-use Rattle.tiles.proofs.ScatterLaws.{getD-scatter-other}
+use Rattle.general.proofs.ScatterLaws.{getD-scatter-other}
 use Rattle.moves.specs.Column.{strided}
 use Rattle.moves.proofs.BlockLaws.{block-within}
 
@@ -32,12 +32,12 @@ unfolding strided
 strided-element base step m e i h = rw (digits-div e h, digits-mod e h)
 
 -- elements that touch are a run of bytes
-pub strided-from : (base m : ℕ) → strided base m m ≡ from base
+pub strided-from : (base m : ℕ) → strided base m m ≡ onwards base
 unfolding strided
 strided-from base m = fun-ext (λ k. omega (arith, div-add-mod' k m))
 
 -- the same where code has the elements' length by another name, as places and as places that are read
-pub strided-from-as : (base : ℕ) {s m : ℕ} → s ≡ m → strided base s m ≡ from base
+pub strided-from-as : (base : ℕ) {s m : ℕ} → s ≡ m → strided base s m ≡ onwards base
 strided-from-as base {s} {m} q = rw q (strided-from base m)
 
 pub read-from-as : (at : ℕ → ℕ) (on : ℕ → Bool) (src : List ℕ) (base : ℕ) {s m : ℕ} (n : ℕ) (l : List ℕ) {d : List ℕ} → s ≡ m → d ≡ scatter at on (λ (k : ℕ). getD src (strided base s m k) 0) n l → d ≡ scatter at on (λ (k : ℕ). getD src (base + k) 0) n l

@@ -1,40 +1,25 @@
 -- Masks and flags: 16 flags made of two predicate bytes are the tests `active`.
 -- Assumes nothing.
 use mathlib.Core.Path.{_≡_, refl, sym}
-use mathlib.Core.Bool.{Bool, true, false, not, _&&_}
+use mathlib.Core.Bool.{Bool, not}
 use mathlib.Core.List.{List, [], _∷_}
 use Prim.Native.Nat.{ℕ, zero, suc, _+_, _-_, _*_, _/_, _%_, _^_, _<_, _≤_}
 use native.Mathlib.Nat.{zero-mul, one-mul, pow-suc, add-comm, add-assoc, mod-lt}
 use native.Mathlib.Numerals.{add-one}
-use native.Mathlib.Decide.{ℕ-discrete}
 use native.Mathlib.Omega.{arith}
 use lib.Bits.{bitAnd, and-high}
-use lib.Dec.{T, eqb, eqb→eq, eqb·suc-zero}
+use mathlib.Core.Option.{none}
+use borrow.Author.Tests.{eqb-true, not-false}
+use lib.Dec.{eqb, eqb·suc-zero}
+use Rattle.general.specs.Least.{least}
+use Rattle.general.proofs.LeastLaws.{least-none}
 use lib.ListN.{getD}
 use lib.Pow.{pow-pos}
-use Rattle.encoding.specs.Flat.{bytesOf}
-use Rattle.encoding.specs.declared.operation.ElementSize.{ElementSize}
-use Rattle.encoding.specs.declared.operation.ElementSize.the-variants.{Bits8, Bits16, Bits32, Bits64, Bits128}
+use Rattle.tiles.specs.Element.{bytesOf}
+use Rattle.tiles.specs.declared.element.ElementSize.{ElementSize}
+use Rattle.tiles.specs.declared.element.ElementSize.the-variants.{Bits8, Bits16, Bits32, Bits64, Bits128}
 use Rattle.tiles.specs.Predicate.{active}
 use Rattle.moves.specs.Mask.{flag, Masks, maskRow}
-
--- a test holds at each number below n
-abbrev holdsBelow : (ℕ → Bool) → ℕ → Bool
-holdsBelow f zero = true
-holdsBelow f (suc n) = f n && holdsBelow f n
-
-and-both : (a b : Bool) → T (a && b) → T a × T b
-and-both true b t = (tt, t)
-and-both false b t = absurd t
-
-holdsBelow-at : (f : ℕ → Bool) (n : ℕ) → T (holdsBelow f n) → (k : ℕ) → k < n → T (f k)
-holdsBelow-at f zero t k h = absurd (omega arith)
-holdsBelow-at f (suc n) t k h =
-    go (λ w. holdsBelow-at f n (and-both (f n) (holdsBelow f n) t .1) k w) (ℕ-discrete n k)
-  where
-    go : (k < n → T (f k)) → Dec (n ≡ k) → T (f k)
-    go earlier (yes e) = rw e at (and-both (f n) (holdsBelow f n) t .0)
-    go earlier (no ne) = earlier (omega arith)
 
 -- the table of masks
 abbrev pub maskRows : List (List ℕ)
@@ -44,22 +29,22 @@ maskRows =
     ∷ (1 ∷ 1 ∷ 1 ∷ 1 ∷ 16 ∷ 16 ∷ 16 ∷ 16 ∷ 1 ∷ 1 ∷ 1 ∷ 1 ∷ 16 ∷ 16 ∷ 16 ∷ 16 ∷ [])
     ∷ (1 ∷ 1 ∷ 1 ∷ 1 ∷ 1 ∷ 1 ∷ 1 ∷ 1 ∷ 1 ∷ 1 ∷ 1 ∷ 1 ∷ 1 ∷ 1 ∷ 1 ∷ 1 ∷ []) ∷ []
 
--- the table has the masks of a size
-maskRight : ElementSize → ℕ → Bool
-maskRight s i = eqb (getD (getD maskRows (maskRow s) []) i 0) (2 ^ (i / bytesOf s * bytesOf s % 8))
+-- a mask that is not the table's
+maskWrong : ElementSize → ℕ → Bool
+maskWrong s i = not (eqb (getD (getD maskRows (maskRow s) []) i 0) (2 ^ (i / bytesOf s * bytesOf s % 8)))
 
-masks-by-test : (s : ElementSize) → T (holdsBelow (maskRight s) 16) → Masks (bytesOf s) (getD maskRows (maskRow s) [])
-unfolding maskRight
-masks-by-test s t i h = eqb→eq _ _ (holdsBelow-at (maskRight s) 16 t i h)
+none-wrong : (s : ElementSize) → least (maskWrong s) 16 ≡ none
+unfolding least maskWrong
+none-wrong Bits8 = refl
+none-wrong Bits16 = refl
+none-wrong Bits32 = refl
+none-wrong Bits64 = refl
+none-wrong Bits128 = refl
 
 -- each size finds its masks in the table, by a computed test
 pub masks-in-table : (s : ElementSize) → Masks (bytesOf s) (getD maskRows (maskRow s) [])
-unfolding maskRight
-masks-in-table Bits8 = masks-by-test Bits8 tt
-masks-in-table Bits16 = masks-by-test Bits16 tt
-masks-in-table Bits32 = masks-by-test Bits32 tt
-masks-in-table Bits64 = masks-by-test Bits64 tt
-masks-in-table Bits128 = masks-by-test Bits128 tt
+unfolding maskWrong
+masks-in-table s i h = eqb-true _ _ (not-false _ (least-none (maskWrong s) 16 (none-wrong s) i h))
 
 -- where the elements of 16 bytes start, and by which of two predicate bytes each goes
 record Halves (m : ℕ) : Type 0 where

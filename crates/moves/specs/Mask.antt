@@ -7,8 +7,8 @@ use mathlib.Core.List.{List}
 use Prim.Native.Nat.{ℕ, _*_, _/_, _%_, _^_, _<_}
 use lib.Dec.{eqb}
 use lib.ListN.{getD}
-use Rattle.encoding.specs.declared.operation.ElementSize.{ElementSize}
-use Rattle.encoding.specs.declared.operation.ElementSize.the-variants.{Bits8, Bits16, Bits32, Bits64, Bits128}
+use Rattle.tiles.specs.declared.element.ElementSize.{ElementSize}
+use Rattle.tiles.specs.declared.element.ElementSize.the-variants.{Bits8, Bits16, Bits32, Bits64, Bits128}
 
 -- flag i of a list of flags: its byte is not zero
 abbrev pub flag : List ℕ → ℕ → Bool

@@ -3,18 +3,18 @@ ghost use mathlib.Core.Path.{_≡_};
 ghost use Prim.Native.Nat.{ℕ, _+_, _*_, _/_, _%_, _^_, _≤_, _<_};
 ghost use lib.Dec.{eqb};
 ghost use lib.ListN.{length, getD};
-ghost use Rattle.encoding.specs.Flat.{bytesOf};
-ghost use Rattle.tiles.specs.Scatter.{scatter, all, zeros, from};
+ghost use Rattle.tiles.specs.Element.{bytesOf};
+ghost use Rattle.general.specs.Scatter.{scatter, all, zeros, onwards};
 ghost use Rattle.tiles.specs.Predicate.{active};
 ghost use Rattle.moves.specs.Column.{strided};
 use crate::element::choose;
 use crate::element::clear_element;
 use crate::element::copy_element;
 use crate::element::merge_sized;
-use encoding::ElementSize;
+use tiles::ElementSize;
 
-// Copies the active ones of 8 bytes that stand sstep apart, which go by the bits of b, to bytes that stand
-// step apart: every one is written, the others with what they hold.
+// Eight bytes of dst: byte i, at index base + i * step, becomes byte i of src, at index sbase + i * sstep, if bit i of b
+// is 1. If it is 0, byte i is written with what it holds: so there is no branch.
 fn merge_eight(
     dst: &mut [u8],
     base: usize,
@@ -36,7 +36,7 @@ fn merge_eight(
     }
 }
 
-// Merges n times 8 elements of one byte, a predicate byte and its eight elements at a time.
+// The same for n times eight elements of one byte, each eight under their own predicate byte.
 fn merge_column_bytes(
     dst: &mut [u8],
     base: usize,
@@ -69,8 +69,8 @@ fn merge_column_bytes(
     }
 }
 
-// Copies the active ones of n elements, which have whole predicate bytes, of src that stand sstep apart, from
-// index sbase on, to elements of dst that stand step apart, under the governing predicate from index pbase of p on.
+// Copies the active elements of n from src to dst. Element e starts at index sbase + e * sstep of src and at index
+// base + e * step of dst. The governing predicate starts at index pbase of p; the n elements have whole bytes of it.
 pub fn merge_column(
     dst: &mut [u8],
     base: usize,
@@ -120,7 +120,7 @@ pub fn take_column(
 )
     requires { ⌜ (bytesOf size ≤ step) × (zbase + n * bytesOf size ≤ length (now z)) ⌝ }
     requires { ⌜ ((e : ℕ) → e < n → base + e * step + bytesOf size ≤ length (now za)) ⌝ }
-    ensures { λ _. ⌜ now (z .exit) ≡ scatter (from zbase) all (λ (k : ℕ). getD (now (za .entry)) (strided base step (bytesOf size) k) 0) (n * bytesOf size) (now (z .entry)) ⌝ }
+    ensures { λ _. ⌜ now (z .exit) ≡ scatter (onwards zbase) all (λ (k : ℕ). getD (now (za .entry)) (strided base step (bytesOf size) k) 0) (n * bytesOf size) (now (z .entry)) ⌝ }
     ensures { λ _. ⌜ now (za .exit) ≡ scatter (strided base step (bytesOf size)) all zeros (n * bytesOf size) (now (za .entry)) ⌝ }
 {
     let m = size.bytes() as usize;
@@ -133,7 +133,7 @@ pub fn take_column(
     }
 }
 
-// Copies n elements of src that stand sstep apart, from index sbase on, to elements of dst that stand step apart.
+// Copies n elements from src to dst. Element e starts at index sbase + e * sstep of src and at index base + e * step of dst.
 pub fn copy_column(
     dst: &mut [u8],
     base: usize,

@@ -1,20 +1,21 @@
 // Elements, one at a time: their length is written out for each size, so that one is a load and a store.
+ghost use mathlib.Core.Bool.{cond};
 ghost use mathlib.Core.Path.{_≡_};
 ghost use Prim.Native.Nat.{ℕ, _+_, _*_, _/_, _≤_, _<_};
 ghost use lib.ListN.{length, getD};
-ghost use Rattle.encoding.specs.Flat.{bytesOf};
-ghost use Rattle.tiles.specs.Scatter.{scatter, all, zeros, from, pick};
+ghost use Rattle.tiles.specs.Element.{bytesOf};
+ghost use Rattle.general.specs.Scatter.{scatter, all, zeros, onwards};
 ghost use Rattle.tiles.specs.Predicate.{bit, active};
 ghost use Rattle.moves.specs.Column.{strided};
 use crate::copy::clear_bytes;
 use crate::copy::copy_bytes;
 use crate::copy::copy_vector;
-use encoding::ElementSize;
+use tiles::ElementSize;
 
 // Copies one element.
 pub fn copy_element(dst: &mut [u8], at_dst: usize, src: &[u8], at_src: usize, size: ElementSize)
     requires { ⌜ («at_dst» + bytesOf size ≤ length (now dst)) × («at_src» + bytesOf size ≤ length (now src)) ⌝ }
-    ensures { λ _. ⌜ now (dst .exit) ≡ scatter (from «at_dst») all (λ (k : ℕ). getD (now (src .entry)) («at_src» + k) 0) (bytesOf size) (now (dst .entry)) ⌝ }
+    ensures { λ _. ⌜ now (dst .exit) ≡ scatter (onwards «at_dst») all (λ (k : ℕ). getD (now (src .entry)) («at_src» + k) 0) (bytesOf size) (now (dst .entry)) ⌝ }
 {
     match size {
         ElementSize::Bits8 => copy_vector(dst, at_dst, src, at_src, 1),
@@ -28,7 +29,7 @@ pub fn copy_element(dst: &mut [u8], at_dst: usize, src: &[u8], at_src: usize, si
 // Sets one element to zero.
 pub fn clear_element(dst: &mut [u8], at: usize, size: ElementSize)
     requires { ⌜ at + bytesOf size ≤ length (now dst) ⌝ }
-    ensures { λ _. ⌜ now (dst .exit) ≡ scatter (from at) all zeros (bytesOf size) (now (dst .entry)) ⌝ }
+    ensures { λ _. ⌜ now (dst .exit) ≡ scatter (onwards at) all zeros (bytesOf size) (now (dst .entry)) ⌝ }
 {
     match size {
         ElementSize::Bits8 => clear_bytes(dst, at, 1),
@@ -41,7 +42,7 @@ pub fn clear_element(dst: &mut [u8], at: usize, size: ElementSize)
 
 // a where the test holds, else b.
 pub fn choose(on: bool, a: u8, b: u8) -> u8
-    ensures { λ r. ⌜ r ≡ pick on a b ⌝ }
+    ensures { λ r. ⌜ r ≡ cond on a b ⌝ }
 {
     if on { a } else { b }
 }
@@ -49,7 +50,7 @@ pub fn choose(on: bool, a: u8, b: u8) -> u8
 // Copies n bytes, at most 16, where the test holds. Either way they are written, without a branch.
 fn merge_bytes(dst: &mut [u8], at_dst: usize, src: &[u8], at_src: usize, on: bool, n: usize)
     requires { ⌜ (n ≤ 16) × («at_dst» + n ≤ length (now dst)) × («at_src» + n ≤ length (now src)) ⌝ }
-    ensures { λ _. ⌜ now (dst .exit) ≡ scatter (from «at_dst») (λ (k : ℕ). on) (λ (k : ℕ). getD (now (src .entry)) («at_src» + k) 0) n (now (dst .entry)) ⌝ }
+    ensures { λ _. ⌜ now (dst .exit) ≡ scatter (onwards «at_dst») (λ (k : ℕ). on) (λ (k : ℕ). getD (now (src .entry)) («at_src» + k) 0) n (now (dst .entry)) ⌝ }
 {
     let mut part = [0u8; 16];
     let mut i = 0;
@@ -68,9 +69,9 @@ fn bit_at(p: &[u8], base: usize, i: usize) -> bool
     (p[base + i / 8] >> (i % 8)) % 2 == 1
 }
 
-// Copies the active ones of n elements of m bytes of src that stand sstep apart, from index sbase on, to elements
-// of dst that stand step apart, under the governing predicate from index pbase of p on. Callers write m out, so
-// that each size has a loop of its own.
+// Copies the active elements of n from src to dst, each of m bytes. Element e starts at index sbase + e * sstep of src and at
+// index base + e * step of dst; the governing predicate starts at index pbase of p. Callers write m out, so that each size
+// has a loop of its own.
 pub fn merge_sized(
     dst: &mut [u8],
     base: usize,

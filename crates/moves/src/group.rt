@@ -3,7 +3,8 @@ ghost use mathlib.Core.Path.{_≡_};
 ghost use mathlib.Core.List.{[], _∷_};
 ghost use Prim.Native.Nat.{ℕ, _+_, _*_, _≤_, _<_};
 ghost use lib.ListN.{length, getD};
-ghost use Rattle.tiles.specs.Scatter.{scatter, all, zeros, from};
+ghost use Rattle.settings.specs.Settings.{maxVectorBytes};
+ghost use Rattle.general.specs.Scatter.{scatter, all, zeros, onwards};
 ghost use Rattle.tiles.specs.Group.{groupAt};
 use crate::copy::clear_bytes;
 use crate::copy::copy_vector;
@@ -32,9 +33,9 @@ pub fn copy_group(
     stride: usize,
     vector_bytes: usize,
 )
-    requires { ⌜ (registers ≤ 4) × («vector_bytes» ≤ 256) × (zbase + registers * «vector_bytes» ≤ length (now z)) ⌝ }
+    requires { ⌜ (registers ≤ 4) × («vector_bytes» ≤ maxVectorBytes) × (zbase + registers * «vector_bytes» ≤ length (now z)) ⌝ }
     requires { ⌜ ((j : ℕ) → j < registers → getD group j 0 * stride + «vector_bytes» ≤ length (now za)) ⌝ }
-    ensures { λ _. ⌜ now (z .exit) ≡ scatter (from zbase) all (λ (k : ℕ). getD (now (za .entry)) (groupAt stride «vector_bytes» group k) 0) (registers * «vector_bytes») (now (z .entry)) ⌝ }
+    ensures { λ _. ⌜ now (z .exit) ≡ scatter (onwards zbase) all (λ (k : ℕ). getD (now (za .entry)) (groupAt stride «vector_bytes» group k) 0) (registers * «vector_bytes») (now (z .entry)) ⌝ }
 {
     let mut j = 0;
     while j < registers {

@@ -1,5 +1,5 @@
 // Bytes of ZA and of vector registers moved, in shapes that become few instructions. Each function
-// is a `scatter` of the crate tiles; ranges are required, since only crates of this project call them.
+// is a `scatter` of the crate general; ranges are required, since only crates of this project call them.
 mod column;
 mod copy;
 mod element;

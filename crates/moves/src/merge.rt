@@ -3,14 +3,14 @@ ghost use mathlib.Core.Path.{_≡_};
 ghost use Prim.Native.Nat.{ℕ, _+_, _*_, _/_, _≤_, _<_};
 ghost use lib.ListN.{length, getD};
 ghost use lib.Bits.{bitAnd};
-ghost use Rattle.encoding.specs.Flat.{bytesOf};
-ghost use Rattle.tiles.specs.Scatter.{scatter, from};
+ghost use Rattle.tiles.specs.Element.{bytesOf};
+ghost use Rattle.general.specs.Scatter.{scatter, onwards};
 ghost use Rattle.tiles.specs.Predicate.{active};
 ghost use Rattle.moves.specs.Mask.{flag, Masks, maskRow};
 use crate::copy::copy_bytes;
 use crate::element::choose;
 use crate::element::merge_sized;
-use encoding::ElementSize;
+use tiles::ElementSize;
 
 // The row of a size in the table of masks.
 fn mask_row(size: ElementSize) -> usize
@@ -25,8 +25,8 @@ fn mask_row(size: ElementSize) -> usize
     }
 }
 
-// The masks of a size: byte i of 16 goes by bit i / m * m mod 8 of its predicate byte. The table is
-// a local, and its row not known before, so that a row is one load.
+// The masks of a size: mask i has one bit, by which byte i of 16 goes, bit i / m * m mod 8 of its predicate byte. The table
+// is a local, and which row is wanted is only known when the function runs: then the compiler makes a row one load.
 fn masks(size: ElementSize) -> [u8; 16]
     ensures { λ r. ⌜ Masks (bytesOf size) r ⌝ }
 {
@@ -40,8 +40,8 @@ fn masks(size: ElementSize) -> [u8; 16]
     rows[row]
 }
 
-// For 16 bytes of a vector under the two predicate bytes from index at on: a byte that is not 0
-// exactly if its bit is 1.
+// The flags of 16 bytes of a vector, whose two predicate bytes are at index at of p: flag i is not 0 exactly if the bit by
+// which byte i goes is 1.
 fn flags(p: &[u8], at: usize, bits: [u8; 16]) -> [u8; 16]
     requires { ⌜ at + 2 ≤ length (now p) ⌝ }
     ensures { λ r. ⌜ ((i : ℕ) → i < 16 → getD r i 0 ≡ bitAnd (getD (now (p .entry)) (at + i / 8) 0) (getD bits i 0)) ⌝ }
@@ -58,7 +58,7 @@ fn flags(p: &[u8], at: usize, bits: [u8; 16]) -> [u8; 16]
 // Copies those of 16 bytes whose flag is not 0: all are read, then all are written.
 fn merge_sixteen(dst: &mut [u8], at_dst: usize, src: &[u8], at_src: usize, on: [u8; 16])
     requires { ⌜ («at_dst» + 16 ≤ length (now dst)) × («at_src» + 16 ≤ length (now src)) ⌝ }
-    ensures { λ _. ⌜ now (dst .exit) ≡ scatter (from «at_dst») (flag on) (λ (k : ℕ). getD (now (src .entry)) («at_src» + k) 0) 16 (now (dst .entry)) ⌝ }
+    ensures { λ _. ⌜ now (dst .exit) ≡ scatter (onwards «at_dst») (flag on) (λ (k : ℕ). getD (now (src .entry)) («at_src» + k) 0) 16 (now (dst .entry)) ⌝ }
 {
     let mut part = [0u8; 16];
     let mut i = 0;
@@ -69,7 +69,7 @@ fn merge_sixteen(dst: &mut [u8], at_dst: usize, src: &[u8], at_src: usize, on: [
     copy_bytes(dst, at_dst, &part, 0, 16);
 }
 
-// Merges n times 16 bytes of elements of at most 8 bytes, so that each half of 16 has a predicate byte.
+// Merges n times 16 bytes. Elements have at most 8 bytes, so that each half of 16 bytes has a predicate byte of its own.
 fn merge_sixteens(
     dst: &mut [u8],
     at_dst: usize,
@@ -81,7 +81,7 @@ fn merge_sixteens(
     n: usize,
 )
     requires { ⌜ (bytesOf size ≤ 8) × («at_dst» + n * 16 ≤ length (now dst)) × («at_src» + n * 16 ≤ length (now src)) × (pbase + n * 2 ≤ length (now p)) ⌝ }
-    ensures { λ _. ⌜ now (dst .exit) ≡ scatter (from «at_dst») (active (now (p .entry)) pbase (bytesOf size)) (λ (k : ℕ). getD (now (src .entry)) («at_src» + k) 0) (n * 16) (now (dst .entry)) ⌝ }
+    ensures { λ _. ⌜ now (dst .exit) ≡ scatter (onwards «at_dst») (active (now (p .entry)) pbase (bytesOf size)) (λ (k : ℕ). getD (now (src .entry)) («at_src» + k) 0) (n * 16) (now (dst .entry)) ⌝ }
 {
     let bits = masks(size);
     let mut g = 0;
@@ -105,7 +105,7 @@ pub fn merge_vector(
     n: usize,
 )
     requires { ⌜ («at_dst» + n * 16 ≤ length (now dst)) × («at_src» + n * 16 ≤ length (now src)) × (pbase + n * 2 ≤ length (now p)) ⌝ }
-    ensures { λ _. ⌜ now (dst .exit) ≡ scatter (from «at_dst») (active (now (p .entry)) pbase (bytesOf size)) (λ (k : ℕ). getD (now (src .entry)) («at_src» + k) 0) (n * 16) (now (dst .entry)) ⌝ }
+    ensures { λ _. ⌜ now (dst .exit) ≡ scatter (onwards «at_dst») (active (now (p .entry)) pbase (bytesOf size)) (λ (k : ℕ). getD (now (src .entry)) («at_src» + k) 0) (n * 16) (now (dst .entry)) ⌝ }
 {
     if size.bytes() == 16 {
         merge_sized(dst, at_dst, 16, src, at_src, 16, p, pbase, 16, n);

@@ -11,9 +11,9 @@ use native.Mathlib.Numerals.{add-one}
 use lib.ListN.{length, length-append, length-set, length-replicate, replicate}
 use lib.Seq.{take-append-seam, take-suc-set}
 use borrow.Author.Tests.{le-leb}
-use Rattle.encoding.proofs.BoolLaws.{and-both, by-test}
+use Rattle.general.proofs.BoolLaws.{and-both, by-test}
 use Rattle.planner.specs.Tile.{noTile, isSize, isTile, isFree, isValid, lowestFree, isAmong, without}
-use Rattle.planner.specs.Held.{answerNumber, heldOf, validHeld, joined, taken, takeOf, heldFrom, leaving, giveUpOf}
+use Rattle.planner.specs.Held.{answerNumber, heldTiles, validHeld, joined, taken, takeOf, heldFrom, leaving, giveUpOf}
 use Rattle.planner.specs.Claims.{Sixteen}
 use Rattle.planner.specs.declared.tile.Tile.{Tile}
 use Rattle.planner.specs.declared.held.Held.{Held}
@@ -36,7 +36,7 @@ answers-differ a b ne e = ne (ap answerNumber e)
 pub record Searched (h : Held) (m : ℕ) (o : Option ℕ) : Type 0 where
   pub size : isSize m ≡ true
   pub valid : validHeld h ≡ true
-  pub search : lowestFree (heldOf h) m ≡ o
+  pub search : lowestFree (heldTiles h) m ≡ o
 
 pub data TakeView (h : Held) (m : ℕ) : Type 0 where
   size-bad : isSize m ≡ false → TakeView h m
@@ -45,9 +45,9 @@ pub data TakeView (h : Held) (m : ℕ) : Type 0 where
   one-free : (t : ℕ) → Searched h m (some t) → TakeView h m
 
 pub take-view : (h : Held) (m : ℕ) → TakeView h m
-take-view h m = go (by-test (isSize m)) (by-test (validHeld h)) (lowestFree (heldOf h) m) refl
+take-view h m = go (by-test (isSize m)) (by-test (validHeld h)) (lowestFree (heldTiles h) m) refl
   where
-    go : (isSize m ≡ true) ⊎ (isSize m ≡ false) → (validHeld h ≡ true) ⊎ (validHeld h ≡ false) → (o : Option ℕ) → lowestFree (heldOf h) m ≡ o → TakeView h m
+    go : (isSize m ≡ true) ⊎ (isSize m ≡ false) → (validHeld h ≡ true) ⊎ (validHeld h ≡ false) → (o : Option ℕ) → lowestFree (heldTiles h) m ≡ o → TakeView h m
     go (inr e) v o q = size-bad e
     go (inl e) (inr v) o q = held-bad e v
     go (inl e) (inl v) none q = none-free (record { size = e; valid = v; search = q })
@@ -93,46 +93,46 @@ take-full h m e = go (take-view h m) (sym (answer-viewed h m (take-view h m)) �
 
 -- a tile that is free joins the held ones
 pub record Joins (h : Held) (x : Tile) : Type 0 where
-  pub list : heldOf (joined h x) ≡ heldOf h ++ (x ∷ [])
+  pub list : heldTiles (joined h x) ≡ heldTiles h ++ (x ∷ [])
   pub sixteen : Sixteen (joined h x)
   pub valid : validHeld (joined h x) ≡ true
 
-pub joins : (h : Held) (x : Tile) → Sixteen h → validHeld h ≡ true → isTile x ≡ true → isFree (heldOf h) x ≡ true → Joins h x
+pub joins : (h : Held) (x : Tile) → Sixteen h → validHeld h ≡ true → isTile x ≡ true → isFree (heldTiles h) x ≡ true → Joins h x
 joins h x s v t f =
     let w = room-for h x s v t f in
-    let list : heldOf (joined h x) ≡ heldOf h ++ (x ∷ []) = rw (add-one (h .count)) (take-suc-set (h .tiles) (h .count) x (omega (arith, s))) in
+    let list : heldTiles (joined h x) ≡ heldTiles h ++ (x ∷ []) = rw (add-one (h .count)) (take-suc-set (h .tiles) (h .count) x (omega (arith, s))) in
     record {
       list = list;
       sixteen = length-set (h .tiles) (h .count) x ∙ s;
-      valid = and-both _ _ (le-leb (h .count + 1) 16 (omega arith)) (ap isValid list ∙ valid-last (heldOf h) x (valid-held h v .list) t f);
+      valid = and-both _ _ (le-leb (h .count + 1) 16 (omega arith)) (ap isValid list ∙ valid-last (heldTiles h) x (valid-held h v .list) t f);
     }
 
 -- ---- giving up
 
 pub record Among (h : Held) (x : Tile) : Type 0 where
   pub valid : validHeld h ≡ true
-  pub among : isAmong (heldOf h) x ≡ true
-  pub is : giveUpOf h x ≡ leaving Done (heldFrom (without (heldOf h) x))
+  pub among : isAmong (heldTiles h) x ≡ true
+  pub is : giveUpOf h x ≡ leaving Done (heldFrom (without (heldTiles h) x))
 
 -- with answer 0 the tile was held
 pub give-up-among : (h : Held) (x : Tile) → giveUpOf h x .answer ≡ Done → Among h x
-give-up-among h x e = go (by-test (validHeld h)) (by-test (isAmong (heldOf h) x))
+give-up-among h x e = go (by-test (validHeld h)) (by-test (isAmong (heldTiles h) x))
   where
     refused : giveUpOf h x ≡ leaving BadHeld h → ⊥
     refused q = answers-differ BadHeld Done (λ n. absurd (omega arith)) (sym (ap (λ (r : GivenUp). r .answer) q) ∙ e)
 
-    go : (validHeld h ≡ true) ⊎ (validHeld h ≡ false) → (isAmong (heldOf h) x ≡ true) ⊎ (isAmong (heldOf h) x ≡ false) → Among h x
+    go : (validHeld h ≡ true) ⊎ (validHeld h ≡ false) → (isAmong (heldTiles h) x ≡ true) ⊎ (isAmong (heldTiles h) x ≡ false) → Among h x
     go (inr v) a = absurd (refused (give-up-invalid h x v))
     go (inl v) (inr a) = absurd (refused (give-up-unheld h x a))
     go (inl v) (inl a) = record { valid = v; among = a; is = give-up-done h x v a }
 
 -- a record made of a list
-pub record Holds (l : List Tile) : Type 0 where
-  pub list : heldOf (heldFrom l) ≡ l
+pub record HeldAgain (l : List Tile) : Type 0 where
+  pub list : heldTiles (heldFrom l) ≡ l
   pub sixteen : Sixteen (heldFrom l)
 
-pub holds : (l : List Tile) → length l ≤ 16 → Holds l
-holds l w = record {
+pub held-again : (l : List Tile) → length l ≤ 16 → HeldAgain l
+held-again l w = record {
   list = take-append-seam l (replicate (16 - length l) noTile);
   sixteen = length-append l (replicate (16 - length l) noTile) ∙ rw (length-replicate (16 - length l) noTile) (omega arith);
 }

@@ -2,7 +2,7 @@
 -- vector is one of the tile's.
 -- Assumes nothing.
 use Prim.Native.Nat.{ℕ, _+_, _*_, _/_, _%_, _<_, _≤_}
-use mathlib.Core.Path.{_≡_, refl, sym, ap, _∙_}
+use mathlib.Core.Path.{_≡_, sym, ap, _∙_}
 use mathlib.Core.Bool.{true}
 use mathlib.Core.Logic.{_⊎_, inl, inr, ⊎-elim}
 use native.Mathlib.Nat.{mod-lt, div-add-mod', div-lt-iff-lt-mul, mul-div-cancel, mul-mod-left}
@@ -11,19 +11,14 @@ use lib.Arith.{digits-lt, digits-div, digits-mod}
 use borrow.Author.Tests.{eqb-true}
 use Rattle.settings.specs.Settings.{isVectorLength}
 use Rattle.settings.proofs.SettingsLaws.{five-lengths}
-use Rattle.encoding.specs.Flat.{sizeOf}
-use Rattle.tiles.proofs.LengthLaws.{whole}
+use Rattle.tiles.specs.Element.{sizeOf}
+use Rattle.tiles.proofs.LengthLaws.{whole-elements}
 use Rattle.planner.specs.Tile.{tileOf, isSize, shares}
 use Rattle.planner.specs.Bytes.{Vectors, ByteIn, ByteShared, TilesHalve, SharesBytes}
 use Rattle.planner.specs.declared.tile.Tile.{Tile}
 use Rattle.planner.proofs.SizeLaws.{size-range, halves, halves-lower, halves-upper}
 use Rattle.planner.proofs.TileLaws.{Exists, tile-exists, tile-some, Covers, shares-common, common-shares}
-use Rattle.encoding.proofs.BoolLaws.{clash}
-
--- whole elements fill a vector
-whole-elements : (B m : ℕ) → isVectorLength B ≡ true → isSize m ≡ true → B / m * m ≡ B
-unfolding isSize
-whole-elements B m v e = ap (λ (k : ℕ). B / k * k) (sym (eqb-true _ _ e)) ∙ whole (sizeOf m) B v .elements ∙ refl
+use Rattle.general.proofs.BoolLaws.{clash}
 
 -- by vector q / S and column q % S
 record At (S B : ℕ) (x : Tile) (q : ℕ) : Type 0 where
@@ -32,8 +27,10 @@ record At (S B : ℕ) (x : Tile) (q : ℕ) : Type 0 where
   tile : Covers x (q / S)
 
 module _ (S B : ℕ) (v : Vectors S B) (x : Tile) (p : Exists x) where
+  -- whole elements fill a vector
   fills : B / x .bytes * x .bytes ≡ B
-  fills = whole-elements B (x .bytes) (v .valid) (p .size)
+  unfolding isSize
+  fills = ap (λ (k : ℕ). B / k * k) (sym (eqb-true _ _ (p .size))) ∙ whole-elements (sizeOf (x .bytes)) B (v .valid) .elements
 
   byte-at : (q : ℕ) → ByteIn S B x q → At S B x q
   byte-at q b =

@@ -11,14 +11,14 @@ use lib.ListN.{length}
 use lib.Seq.{length-take-le}
 use borrow.Author.Tests.{le-leb}
 use Rattle.settings.specs.Settings.{isVectorLength}
-use Rattle.encoding.proofs.BoolLaws.{and-both, by-test, refute, clash}
-use Rattle.tiles.specs.Least.{least}
-use Rattle.tiles.proofs.LeastLaws.{least-some, least-none, least-never}
+use Rattle.general.proofs.BoolLaws.{and-both, by-test, refute, clash}
+use Rattle.general.specs.Least.{least}
+use Rattle.general.proofs.LeastLaws.{least-some, least-none, least-never}
 use Rattle.planner.specs.Tile.{tileOf, isSize, shares, isFree, isValid, lowestFree, isAmong, without}
-use Rattle.planner.specs.Held.{heldOf, heldFrom, validHeld, joined, refused, takeOf, leaving, giveUpOf}
+use Rattle.planner.specs.Held.{heldTiles, heldFrom, validHeld, joined, refused, takeOf, leaving, giveUpOf}
 use Rattle.planner.specs.Bytes.{Vectors, TilesHalve, SharesBytes, tileAt, Apart, ValidIsApart, SharedBy}
 use Rattle.planner.specs.Claims.{Sixteen, ValidHeldIsApart, TakingAnswers, Takes, TakingTakes, Full, NoFreeIsFull, GivingUpAnswers, GivingUpGives, Undone, TakingUndone, GivenUpRetaken, shownHeld, Shown}
-use Rattle.planner.specs.Examples.{ExamplesHold}
+use Rattle.planner.specs.Examples.{TakingExamplesHold}
 use Rattle.planner.specs.declared.tile.Tile.{Tile}
 use Rattle.planner.specs.declared.held.Held.{Held}
 use Rattle.planner.specs.declared.answer.TileAnswer.{TileAnswer}
@@ -32,10 +32,10 @@ use Rattle.planner.proofs.TileLaws.{Exists, tile-exists, exists-tile, s
 use Rattle.planner.proofs.HeldLaws.{valid-held}
 use Rattle.planner.proofs.ListLaws.{free-at, free-not, valid-exist, valid-differ, valid-all, among-last, among-at, among-tile, free-unheld, without-parts, valid-without, free-again}
 use Rattle.planner.proofs.RoomLaws.{without-length, without-last, unheld-same, take-size, take-held, take-none, take-some, give-up-done, give-up-invalid, give-up-unheld}
-use Rattle.planner.proofs.AnswerLaws.{Searched, TakeView, size-bad, held-bad, none-free, one-free, take-view, take-found, take-full, Joins, joins, Among, give-up-among, holds}
+use Rattle.planner.proofs.AnswerLaws.{Searched, TakeView, size-bad, held-bad, none-free, one-free, take-view, take-found, take-full, Joins, joins, Among, give-up-among, held-again}
 
-pub examples-hold : ExamplesHold
-examples-hold = examples.examples-hold
+pub taking-examples-hold : TakingExamplesHold
+taking-examples-hold = examples.taking-examples-hold
 
 pub tiles-halve : TilesHalve
 tiles-halve = bytes.tiles-halve
@@ -63,8 +63,8 @@ valid-is-apart S B l v = (forth, back)
 
 pub valid-held-is-apart : ValidHeldIsApart
 valid-held-is-apart S B h v = (
-  λ e. let p = valid-held h e in (p .few, valid-is-apart S B (heldOf h) v .0 (p .list)),
-  λ w a. and-both _ _ (le-leb (h .count) 16 w) (valid-is-apart S B (heldOf h) v .1 a),
+  λ e. let p = valid-held h e in (p .few, valid-is-apart S B (heldTiles h) v .0 (p .list)),
+  λ w a. and-both _ _ (le-leb (h .count) 16 w) (valid-is-apart S B (heldTiles h) v .1 a),
 )
 
 -- a tile that is not free shares a byte with one of a valid list, and a free one does not
@@ -86,11 +86,11 @@ pub taking-answers : TakingAnswers
 taking-answers h m = record {
   size = λ e. ap (λ (r : Taken). r .answer) (take-size h m e);
   bad = λ e v. ap (λ (r : Taken). r .answer) (take-held h m e v);
-  good = λ e v. good (lowestFree (heldOf h) m) refl e v;
+  good = λ e v. good (lowestFree (heldTiles h) m) refl e v;
   refused = λ n. kept n (take-view h m);
 }
   where
-    good : (o : Option ℕ) → lowestFree (heldOf h) m ≡ o → isSize m ≡ true → validHeld h ≡ true → (takeOf h m .answer ≡ Done) ⊎ (takeOf h m .answer ≡ NoFreeTile)
+    good : (o : Option ℕ) → lowestFree (heldTiles h) m ≡ o → isSize m ≡ true → validHeld h ≡ true → (takeOf h m .answer ≡ Done) ⊎ (takeOf h m .answer ≡ NoFreeTile)
     good none q e v = inr (ap (λ (r : Taken). r .answer) (take-none h m e v q))
     good (some t) q e v = inl (ap (λ (r : Taken). r .answer) (take-some h m t e v q))
 
@@ -106,16 +106,16 @@ taking-answers h m = record {
 -- the tile that was found exists and is free, and no lower one is
 module _ (h : Held) (m t : ℕ) (s : Searched h m (some t)) where
   below : t < m
-  below = least-some (λ u. isFree (heldOf h) (tileOf m u)) m t (s .search) .0
+  below = least-some (λ u. isFree (heldTiles h) (tileOf m u)) m t (s .search) .0
 
   exists : Exists (tileOf m t)
   exists = record { size = s .size; below = below }
 
-  free : isFree (heldOf h) (tileOf m t) ≡ true
-  free = least-some (λ u. isFree (heldOf h) (tileOf m u)) m t (s .search) .1
+  free : isFree (heldTiles h) (tileOf m t) ≡ true
+  free = least-some (λ u. isFree (heldTiles h) (tileOf m u)) m t (s .search) .1
 
-  none-lower : (u : ℕ) → u < t → isFree (heldOf h) (tileOf m u) ≡ false
-  none-lower = least-some (λ u. isFree (heldOf h) (tileOf m u)) m t (s .search) .2
+  none-lower : (u : ℕ) → u < t → isFree (heldTiles h) (tileOf m u) ≡ false
+  none-lower = least-some (λ u. isFree (heldTiles h) (tileOf m u)) m t (s .search) .2
 
   found-joins : Sixteen h → Joins h (tileOf m t)
   found-joins sixteen = joins h (tileOf m t) sixteen (s .valid) (exists-tile _ exists) free
@@ -129,8 +129,8 @@ takes S B h m t v sixteen s =
       joins = j .list;
       sixteen = j .sixteen;
       valid = j .valid;
-      free = λ b. clash (isFree (heldOf h) (tileOf m t)) (free h m t s) (shared-taken S B v (heldOf h) valid (tileOf m t) (exists h m t s) b);
-      lowest = λ u w. taken-shared S B v (heldOf h) valid (tileOf m u) (record { size = s .size; below = omega (arith, below h m t s) }) (none-lower h m t s u w);
+      free = λ b. clash (isFree (heldTiles h) (tileOf m t)) (free h m t s) (shared-taken S B v (heldTiles h) valid (tileOf m t) (exists h m t s) b);
+      lowest = λ u w. taken-shared S B v (heldTiles h) valid (tileOf m u) (record { size = s .size; below = omega (arith, below h m t s) }) (none-lower h m t s u w);
     }
 
 pub taking-takes : TakingTakes
@@ -145,26 +145,26 @@ no-free-is-full S B h m v sixteen = (forth, back)
     forth e = let s = take-full h m e in record {
       size = s .size;
       valid = s .valid;
-      none = λ t w. taken-shared S B v (heldOf h) (valid-held h (s .valid) .list) (tileOf m t) (record { size = s .size; below = w })
-          (least-none (λ u. isFree (heldOf h) (tileOf m u)) m (s .search) t w);
+      none = λ t w. taken-shared S B v (heldTiles h) (valid-held h (s .valid) .list) (tileOf m t) (record { size = s .size; below = w })
+          (least-none (λ u. isFree (heldTiles h) (tileOf m u)) m (s .search) t w);
     }
 
     back : Full S B h m → takeOf h m .answer ≡ NoFreeTile
-    back f = ap (λ (r : Taken). r .answer) (take-none h m (f .size) (f .valid) (least-never (λ u. isFree (heldOf h) (tileOf m u)) m (λ t w.
-        shared-taken S B v (heldOf h) (valid-held h (f .valid) .list) (tileOf m t) (record { size = f .size; below = w }) (f .none t w))))
+    back f = ap (λ (r : Taken). r .answer) (take-none h m (f .size) (f .valid) (least-never (λ u. isFree (heldTiles h) (tileOf m u)) m (λ t w.
+        shared-taken S B v (heldTiles h) (valid-held h (f .valid) .list) (tileOf m t) (record { size = f .size; below = w }) (f .none t w))))
 
 -- ---- giving up
 
 pub giving-up-answers : GivingUpAnswers
 giving-up-answers h = record {
-  held = λ v k w. ap (λ (r : GivenUp). r .answer) (give-up-done h (tileAt (heldOf h) k) v (among-at (heldOf h) k w));
-  refused = λ x n. go x n (by-test (validHeld h)) (by-test (isAmong (heldOf h) x));
+  held = λ v k w. ap (λ (r : GivenUp). r .answer) (give-up-done h (tileAt (heldTiles h) k) v (among-at (heldTiles h) k w));
+  refused = λ x n. go x n (by-test (validHeld h)) (by-test (isAmong (heldTiles h) x));
 }
   where
     same : (x : Tile) → giveUpOf h x ≡ leaving BadHeld h → (giveUpOf h x .answer ≡ BadHeld) × (giveUpOf h x .held ≡ h)
     same x q = (ap (λ (r : GivenUp). r .answer) q, ap (λ (r : GivenUp). r .held) q)
 
-    go : (x : Tile) → (giveUpOf h x .answer ≡ Done → ⊥) → (validHeld h ≡ true) ⊎ (validHeld h ≡ false) → (isAmong (heldOf h) x ≡ true) ⊎ (isAmong (heldOf h) x ≡ false) →
+    go : (x : Tile) → (giveUpOf h x .answer ≡ Done → ⊥) → (validHeld h ≡ true) ⊎ (validHeld h ≡ false) → (isAmong (heldTiles h) x ≡ true) ⊎ (isAmong (heldTiles h) x ≡ false) →
         (giveUpOf h x .answer ≡ BadHeld) × (giveUpOf h x .held ≡ h)
     go x n (inr v) a = same x (give-up-invalid h x v)
     go x n (inl v) (inr a) = same x (give-up-unheld h x a)
@@ -173,21 +173,21 @@ giving-up-answers h = record {
 -- the held tiles without one
 module _ (h : Held) (x : Tile) (sixteen : Sixteen h) (a : Among h x) where
   abbrev rest : List Tile
-  rest = without (heldOf h) x
+  rest = without (heldTiles h) x
 
   rest-few : length rest ≤ 16
   rest-few =
       let few = valid-held h (a .valid) .few in
-      omega (arith, without-length (heldOf h) x, length-take-le (h .count) (h .tiles) (omega (arith, sixteen)))
+      omega (arith, without-length (heldTiles h) x, length-take-le (h .count) (h .tiles) (omega (arith, sixteen)))
 
   rest-valid : validHeld (heldFrom rest) ≡ true
-  rest-valid = and-both _ _ (le-leb (length rest) 16 rest-few) (ap isValid (holds rest rest-few .list) ∙ valid-without (heldOf h) x (valid-held h (a .valid) .list))
+  rest-valid = and-both _ _ (le-leb (length rest) 16 rest-few) (ap isValid (held-again rest rest-few .list) ∙ valid-without (heldTiles h) x (valid-held h (a .valid) .list))
 
 pub giving-up-gives : GivingUpGives
 giving-up-gives h x sixteen e =
     let a = give-up-among h x e in
-    let p = without-parts (heldOf h) x (valid-held h (a .valid) .list) (a .among) in
-    let k = holds (rest h x sixteen a) (rest-few h x sixteen a) in
+    let p = without-parts (heldTiles h) x (valid-held h (a .valid) .list) (a .among) in
+    let k = held-again (rest h x sixteen a) (rest-few h x sixteen a) in
     rw (a .is) (record {
       before = p .before;
       after = p .after;
@@ -204,14 +204,14 @@ undone : (h : Held) (m t : ℕ) → Sixteen h → Searched h m (some t) → Undo
 undone h m t sixteen s =
     let x = tileOf m t in
     let j = found-joins h m t s sixteen in
-    let among : isAmong (heldOf (joined h x)) x ≡ true = ap (λ l. isAmong l x) (j .list) ∙ among-last (heldOf h) x in
+    let among : isAmong (heldTiles (joined h x)) x ≡ true = ap (λ l. isAmong l x) (j .list) ∙ among-last (heldTiles h) x in
     let a = give-up-done (joined h x) x (j .valid) among in
-    let gone : without (heldOf (joined h x)) x ≡ heldOf h =
-    ap (λ l. without l x) (j .list) ∙ without-last (heldOf h) x x ∙ rw (same-own x) (unheld-same (heldOf h) x (free-unheld (heldOf h) x (exists h m t s) (free h m t s))) in
-    let k = holds (heldOf h) (omega (arith, valid-held h (s .valid) .few, length-take-le (h .count) (h .tiles) (omega (arith, valid-held h (s .valid) .few)))) in
+    let gone : without (heldTiles (joined h x)) x ≡ heldTiles h =
+    ap (λ l. without l x) (j .list) ∙ without-last (heldTiles h) x x ∙ rw (same-own x) (unheld-same (heldTiles h) x (free-unheld (heldTiles h) x (exists h m t s) (free h m t s))) in
+    let k = held-again (heldTiles h) (omega (arith, valid-held h (s .valid) .few, length-take-le (h .count) (h .tiles) (omega (arith, valid-held h (s .valid) .few)))) in
     record {
       done = ap (λ (r : GivenUp). r .answer) a;
-      held = ap (λ (r : GivenUp). heldOf (r .held)) a ∙ ap (λ l. heldOf (heldFrom l)) gone ∙ k .list;
+      held = ap (λ (r : GivenUp). heldTiles (r .held)) a ∙ ap (λ l. heldTiles (heldFrom l)) gone ∙ k .list;
     }
 
 pub taking-undone : TakingUndone
@@ -220,20 +220,20 @@ taking-undone h m sixteen e =
     rw (f .is) (undone h m (f .number) sixteen (f .searched))
 
 -- where a tile is free, one of its size can be taken
-found-free : (h : Held) (x : Tile) → validHeld h ≡ true → Exists x → isFree (heldOf h) x ≡ true → takeOf h (x .bytes) .answer ≡ Done
-found-free h x v p f = go (lowestFree (heldOf h) (x .bytes)) refl
+found-free : (h : Held) (x : Tile) → validHeld h ≡ true → Exists x → isFree (heldTiles h) x ≡ true → takeOf h (x .bytes) .answer ≡ Done
+found-free h x v p f = go (lowestFree (heldTiles h) (x .bytes)) refl
   where
-    go : (o : Option ℕ) → lowestFree (heldOf h) (x .bytes) ≡ o → takeOf h (x .bytes) .answer ≡ Done
-    go none q = absurd (clash (isFree (heldOf h) x) f (least-none (λ u. isFree (heldOf h) (tileOf (x .bytes) u)) (x .bytes) q (x .number) (p .below)))
+    go : (o : Option ℕ) → lowestFree (heldTiles h) (x .bytes) ≡ o → takeOf h (x .bytes) .answer ≡ Done
+    go none q = absurd (clash (isFree (heldTiles h) x) f (least-none (λ u. isFree (heldTiles h) (tileOf (x .bytes) u)) (x .bytes) q (x .number) (p .below)))
     go (some t) q = ap (λ (r : Taken). r .answer) (take-some h (x .bytes) t (p .size) v q)
 
 pub given-up-retaken : GivenUpRetaken
 given-up-retaken h x sixteen e =
     let a = give-up-among h x e in
     let r = rest h x sixteen a in
-    let list = holds r (rest-few h x sixteen a) .list in
-    let p = among-tile (heldOf h) x (valid-held h (a .valid) .list) (a .among) in
-    let again : isFree (heldOf (heldFrom r)) x ≡ true = ap (λ l. isFree l x) list ∙ free-again (heldOf h) x (valid-held h (a .valid) .list) (a .among) in
+    let list = held-again r (rest-few h x sixteen a) .list in
+    let p = among-tile (heldTiles h) x (valid-held h (a .valid) .list) (a .among) in
+    let again : isFree (heldTiles (heldFrom r)) x ≡ true = ap (λ l. isFree l x) list ∙ free-again (heldTiles h) x (valid-held h (a .valid) .list) (a .among) in
     rw (a .is) (found-free (heldFrom r) x (rest-valid h x sixteen a) p again)
 
 -- ---- at a state

@@ -1,14 +1,14 @@
 -- The worked examples, computed.
 -- Assumes nothing.
 use mathlib.Core.Path.{refl}
-use Rattle.tiles.specs.Least.{least}
+use Rattle.general.specs.Least.{least}
 use Rattle.planner.specs.Tile.{isSize, shares, isFree, isValid, isAmong, without}
 use Rattle.planner.specs.Held.{takeOf, giveUpOf}
-use Rattle.planner.specs.Examples.{ExamplesHold}
+use Rattle.planner.specs.Examples.{TakingExamplesHold}
 
-pub examples-hold : ExamplesHold
+pub taking-examples-hold : TakingExamplesHold
 unfolding least isSize shares isFree isValid isAmong without takeOf giveUpOf
-examples-hold = record {
+taking-examples-hold = record {
   nothing = refl;
   first = refl;
   even = refl;

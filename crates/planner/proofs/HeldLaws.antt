@@ -10,9 +10,9 @@ use lib.Dec.{leb}
 use lib.ListN.{length, length-map, getD, take, drop, drop-of-length-le}
 use lib.Seq.{drop-cons, drop-drop, getD-take, length-take-le}
 use borrow.Author.Tests.{leb-true}
-use Rattle.encoding.proofs.BoolLaws.{and-parts, refute, clash}
+use Rattle.general.proofs.BoolLaws.{and-parts, refute, clash}
 use Rattle.planner.specs.Tile.{noTile, isTile, shares, isFree, isValid}
-use Rattle.planner.specs.Held.{heldOf, validHeld}
+use Rattle.planner.specs.Held.{heldTiles, validHeld}
 use Rattle.planner.specs.Steps.{TilesFrom}
 use Rattle.planner.specs.declared.tile.Tile.{Tile}
 use Rattle.planner.specs.declared.held.Held.{Held}
@@ -92,12 +92,12 @@ valid-tiles ts n i j e ij jn h =
 
 pub record Valid (h : Held) : Type 0 where
   pub few : h .count ≤ 16
-  pub list : isValid (heldOf h) ≡ true
+  pub list : isValid (heldTiles h) ≡ true
 
 pub valid-held : (h : Held) → validHeld h ≡ true → Valid h
-valid-held h v = let p = and-parts (leb (h .count) 16) (isValid (heldOf h)) v in record { few = leb-true _ _ (p .0); list = p .1 }
+valid-held h v = let p = and-parts (leb (h .count) 16) (isValid (heldTiles h)) v in record { few = leb-true _ _ (p .0); list = p .1 }
 
-pub invalid-held : (h : Held) → isValid (heldOf h) ≡ false → validHeld h ≡ false
+pub invalid-held : (h : Held) → isValid (heldTiles h) ≡ false → validHeld h ≡ false
 invalid-held h e = refute _ (λ v. clash _ (valid-held h v .list) e)
 
 pub held-tiles : (h : Held) → length (h .tiles) ≡ 16 → validHeld h ≡ true → TilesFrom h 0

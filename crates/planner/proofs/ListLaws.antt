@@ -1,6 +1,6 @@
 -- Laws of lists of tiles by place, with a tile more and with one less.
 -- Assumes nothing.
-use Prim.Native.Nat.{ℕ, zero, suc, _+_, _<_}
+use Prim.Native.Nat.{ℕ, zero, suc, _<_}
 use mathlib.Core.Path.{_≡_, refl, sym, ap, subst, _∙_}
 use mathlib.Core.Bool.{Bool, true, false, cond, not, _||_}
 use mathlib.Core.List.{List, [], _∷_, _++_}
@@ -8,8 +8,8 @@ use mathlib.Core.Logic.{_⊎_, inl, inr}
 use native.Mathlib.Omega.{arith}
 use lib.ListN.{length}
 use borrow.Author.Tests.{not-true}
-use Rattle.encoding.proofs.BoolLaws.{and-parts, by-test, refute, clash}
-use Rattle.planner.specs.Tile.{isTile, shares, isFree, isValid, same, isAmong, without}
+use Rattle.general.proofs.BoolLaws.{and-parts, by-test, refute, clash, or-right}
+use Rattle.planner.specs.Tile.{isTile, shares, isFree, isValid, isSame, isAmong, without}
 use Rattle.planner.specs.Bytes.{tileAt}
 use Rattle.planner.specs.declared.tile.Tile.{Tile}
 use Rattle.planner.proofs.TileLaws.{Exists, tile-exists, shares-sym, shares-own, same-is, same-own}
@@ -94,29 +94,21 @@ valid-last (y ∷ ys) x v t f =
 pub among-last : (l : List Tile) (x : Tile) → isAmong (l ++ (x ∷ [])) x ≡ true
 unfolding isAmong
 among-last [] x = rw (same-own x)
-among-last (y ∷ ys) x = go (same y x) (among-last ys x)
-  where
-    go : (b : Bool) → isAmong (ys ++ (x ∷ [])) x ≡ true → b || isAmong (ys ++ (x ∷ [])) x ≡ true
-    go true h = refl
-    go false h = h
+among-last (y ∷ ys) x = or-right (isSame y x) _ (among-last ys x)
 
 pub among-at : (l : List Tile) (k : ℕ) → k < length l → isAmong l (tileAt l k) ≡ true
 unfolding isAmong
 among-at [] k w = absurd (omega arith)
 among-at (y ∷ ys) zero w = rw (same-own y)
-among-at (y ∷ ys) (suc k) w = go (same y (tileAt ys k)) (among-at ys k (omega arith))
-  where
-    go : (b : Bool) → isAmong ys (tileAt ys k) ≡ true → b || isAmong ys (tileAt ys k) ≡ true
-    go true h = refl
-    go false h = h
+among-at (y ∷ ys) (suc k) w = or-right (isSame y (tileAt ys k)) _ (among-at ys k (omega arith))
 
 -- a tile among others is one of them, so it is not free beside them
 among-exists : (l : List Tile) (x : Tile) → isValid l ≡ true → isAmong l x ≡ true → isTile x ≡ true
 unfolding isAmong
 among-exists [] x v e = absurd (clash false e refl)
-among-exists (y ∷ ys) x v e = go (by-test (same y x)) (λ h. among-exists ys x (valid-head y ys v .2) h)
+among-exists (y ∷ ys) x v e = go (by-test (isSame y x)) (λ h. among-exists ys x (valid-head y ys v .2) h)
   where
-    go : (same y x ≡ true) ⊎ (same y x ≡ false) → (isAmong ys x ≡ true → isTile x ≡ true) → isTile x ≡ true
+    go : (isSame y x ≡ true) ⊎ (isSame y x ≡ false) → (isAmong ys x ≡ true → isTile x ≡ true) → isTile x ≡ true
     go (inl p) ih = subst (λ (z : Tile). isTile z ≡ true) (same-is y x p) (valid-head y ys v .0)
     go (inr p) ih = ih (rw p at e)
 
@@ -127,9 +119,9 @@ among-tile l x v e = tile-exists x (among-exists l x v e)
 free-among : (l : List Tile) (y x : Tile) → isFree l y ≡ true → isAmong l x ≡ true → shares y x ≡ false
 unfolding isAmong
 free-among [] y x f e = absurd (clash false e refl)
-free-among (z ∷ zs) y x f e = go (by-test (same z x)) (λ h. free-among zs y x (free-head z zs y f .1) h)
+free-among (z ∷ zs) y x f e = go (by-test (isSame z x)) (λ h. free-among zs y x (free-head z zs y f .1) h)
   where
-    go : (same z x ≡ true) ⊎ (same z x ≡ false) → (isAmong zs x ≡ true → shares y x ≡ false) → shares y x ≡ false
+    go : (isSame z x ≡ true) ⊎ (isSame z x ≡ false) → (isAmong zs x ≡ true → shares y x ≡ false) → shares y x ≡ false
     go (inl p) ih = subst (λ (w : Tile). shares y w ≡ false) (same-is z x p) (free-head z zs y f .0)
     go (inr p) ih = ih (rw p at e)
 
@@ -148,7 +140,7 @@ pub record Parted (l : List Tile) (x : Tile) : Type 0 where
 pub without-parts : (l : List Tile) (x : Tile) → isValid l ≡ true → isAmong l x ≡ true → Parted l x
 unfolding isAmong without
 without-parts [] x v e = absurd (clash false e refl)
-without-parts (y ∷ ys) x v e = go (same y x) refl e (λ h. without-parts ys x (valid-head y ys v .2) h)
+without-parts (y ∷ ys) x v e = go (isSame y x) refl e (λ h. without-parts ys x (valid-head y ys v .2) h)
   where
     -- the tiles after it are others
     others : x ≡ y → without ys x ≡ ys
@@ -156,7 +148,7 @@ without-parts (y ∷ ys) x v e = go (same y x) refl e (λ h. without-parts ys x 
         let w = valid-head y ys v in
         ap (without ys) q ∙ unheld-same ys y (free-unheld ys y (tile-exists y (w .0)) (w .1))
 
-    go : (b : Bool) → same y x ≡ b → b || isAmong ys x ≡ true → (isAmong ys x ≡ true → Parted ys x) → Parted (y ∷ ys) x
+    go : (b : Bool) → isSame y x ≡ b → b || isAmong ys x ≡ true → (isAmong ys x ≡ true → Parted ys x) → Parted (y ∷ ys) x
     go true q e ih =
         let z = same-is y x q in
         record { before = []; after = ys; was = ap (λ k. k ∷ ys) z; is = rw q (others (sym z)) }
@@ -167,7 +159,7 @@ without-parts (y ∷ ys) x v e = go (same y x) refl e (λ h. without-parts ys x 
 free-without : (l : List Tile) (x y : Tile) → isFree l y ≡ true → isFree (without l x) y ≡ true
 unfolding without
 free-without [] x y f = f
-free-without (z ∷ zs) x y f = go (same z x) (free-without zs x y (free-head z zs y f .1))
+free-without (z ∷ zs) x y f = go (isSame z x) (free-without zs x y (free-head z zs y f .1))
   where
     go : (b : Bool) → isFree (without zs x) y ≡ true → isFree (cond b (without zs x) (z ∷ without zs x)) y ≡ true
     go true h = h
@@ -176,7 +168,7 @@ free-without (z ∷ zs) x y f = go (same z x) (free-without zs x y (free-head z 
 pub valid-without : (l : List Tile) (x : Tile) → isValid l ≡ true → isValid (without l x) ≡ true
 unfolding without
 valid-without [] x v = v
-valid-without (y ∷ ys) x v = go (same y x) (valid-head y ys v) (valid-without ys x (valid-head y ys v .2))
+valid-without (y ∷ ys) x v = go (isSame y x) (valid-head y ys v) (valid-without ys x (valid-head y ys v .2))
   where
     go : (b : Bool) → (isTile y ≡ true) × (isFree ys y ≡ true) × (isValid ys ≡ true) → isValid (without ys x) ≡ true → isValid (cond b (without ys x) (y ∷ without ys x)) ≡ true
     go true w h = h
@@ -186,12 +178,12 @@ valid-without (y ∷ ys) x v = go (same y x) (valid-head y ys v) (valid-without 
 pub free-again : (l : List Tile) (x : Tile) → isValid l ≡ true → isAmong l x ≡ true → isFree (without l x) x ≡ true
 unfolding isAmong without
 free-again [] x v e = absurd (clash false e refl)
-free-again (y ∷ ys) x v e = go (same y x) refl e (λ h. free-again ys x (w .2) h)
+free-again (y ∷ ys) x v e = go (isSame y x) refl e (λ h. free-again ys x (w .2) h)
   where
     w : (isTile y ≡ true) × (isFree ys y ≡ true) × (isValid ys ≡ true)
     w = valid-head y ys v
 
-    go : (b : Bool) → same y x ≡ b → b || isAmong ys x ≡ true → (isAmong ys x ≡ true → isFree (without ys x) x ≡ true) →
+    go : (b : Bool) → isSame y x ≡ b → b || isAmong ys x ≡ true → (isAmong ys x ≡ true → isFree (without ys x) x ≡ true) →
         isFree (cond b (without ys x) (y ∷ without ys x)) x ≡ true
     go true q e ih = free-without ys x x (subst (λ (z : Tile). isFree ys z ≡ true) (same-is y x q) (w .1))
     go false q e ih =

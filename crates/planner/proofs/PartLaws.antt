@@ -9,9 +9,9 @@ use native.Mathlib.Omega.{arith}
 use lib.ListN.{length}
 use lib.Seq.{length-take-le}
 use borrow.Author.Tests.{eqb-true, eq-eqb, not-true}
-use Rattle.encoding.proofs.BoolLaws.{and-parts, refute, clash}
+use Rattle.general.proofs.BoolLaws.{and-parts, refute, clash}
 use Rattle.planner.specs.Tile.{isTile, covers, shares, isFree, isValid}
-use Rattle.planner.specs.Held.{heldOf, validHeld}
+use Rattle.planner.specs.Held.{heldTiles, validHeld}
 use Rattle.planner.specs.declared.tile.Tile.{Tile}
 use Rattle.planner.specs.declared.held.Held.{Held}
 use Rattle.planner.proofs.SizeLaws.{size-range}
@@ -91,7 +91,7 @@ each-has-part (x ∷ xs) v =
 pub room-left : (l : List Tile) (x : Tile) → isValid l ≡ true → isTile x ≡ true → isFree l x ≡ true → length l < 16
 room-left l x v t f = omega (arith, each-has-part (x ∷ l) (valid-cons x l t f v), count-within 16 (isCovered (x ∷ l)))
 
-pub room-for : (h : Held) (x : Tile) → length (h .tiles) ≡ 16 → validHeld h ≡ true → isTile x ≡ true → isFree (heldOf h) x ≡ true → h .count < 16
+pub room-for : (h : Held) (x : Tile) → length (h .tiles) ≡ 16 → validHeld h ≡ true → isTile x ≡ true → isFree (heldTiles h) x ≡ true → h .count < 16
 room-for h x e v t f =
     let p = valid-held h v in
-    omega (arith, room-left (heldOf h) x (p .list) t f, length-take-le (h .count) (h .tiles) (omega (arith, p .few)))
+    omega (arith, room-left (heldTiles h) x (p .list) t f, length-take-le (h .count) (h .tiles) (omega (arith, p .few)))

@@ -10,9 +10,9 @@ use native.Mathlib.Nat.{mod-eq-of-lt, mod-one}
 use native.Mathlib.Omega.{arith}
 use lib.Dec.{eqb}
 use borrow.Author.Tests.{eqb-true, eq-eqb}
-use Rattle.encoding.proofs.BoolLaws.{and-parts, and-both, refute, clash}
-use Rattle.tiles.specs.Least.{least}
-use Rattle.tiles.proofs.LeastLaws.{least-found, least-never, least-none, least-some}
+use Rattle.general.proofs.BoolLaws.{and-parts, and-both, refute, clash}
+use Rattle.general.specs.Least.{least}
+use Rattle.general.proofs.LeastLaws.{least-found, least-never, least-none, least-some}
 use Rattle.planner.specs.Tile.{tileOf, isSize, isFree, lowestFree}
 use Rattle.planner.specs.Steps.{orSixteen, lowestIn}
 use Rattle.planner.specs.declared.tile.Tile.{Tile}

@@ -3,38 +3,31 @@
 use Prim.Native.Nat.{ℕ, _+_, _*_, _-_, _/_, _%_, _<_, _≤_}
 use mathlib.Core.Path.{_≡_, refl, sym, subst, ap, _∙_}
 use mathlib.Core.Bool.{Bool, true, false, _&&_, _||_}
+use mathlib.Core.List.{[], _∷_}
 use mathlib.Core.Logic.{_⊎_, inl, inr, ⊎-elim}
 use native.Mathlib.Decide.{decLt}
 use native.Mathlib.Nat.{mod-lt, mod-eq-of-lt, mod-eq-sub-mod, mod-mod-of-dvd, dvd-of-mod-eq-zero, dvd-mul-left, add-mod-right}
 use native.Mathlib.Omega.{arith}
 use lib.Dec.{eqb, leb, ltb}
 use borrow.Author.Tests.{eqb-true, ltb-true, leb-true, le-ltb, lt-leb}
-use Rattle.encoding.specs.Flat.{bytesOf, sizeOf}
-use Rattle.encoding.specs.declared.operation.ElementSize.{ElementSize}
-use Rattle.encoding.specs.declared.operation.ElementSize.the-variants.{Bits8, Bits16, Bits32, Bits64, Bits128}
-use Rattle.encoding.proofs.BoolLaws.{and-parts, or-parts, clash}
+use Rattle.tiles.specs.Element.{bytesOf, sizeOf}
+use Rattle.tiles.specs.declared.element.ElementSize.{ElementSize}
+use Rattle.tiles.specs.declared.element.ElementSize.the-variants.{Bits8, Bits16, Bits32, Bits64, Bits128}
+use Rattle.general.proofs.BoolLaws.{and-parts, or-parts, clash, allOf, all-at}
 use Rattle.planner.specs.Tile.{isSize}
 
 -- ---- tests over the sizes
 
 -- a test that every size passes
 abbrev each : (ℕ → Bool) → Bool
-each f = f 1 && f 2 && f 4 && f 8 && f 16
+each f = allOf (f 1 ∷ f 2 ∷ f 4 ∷ f 8 ∷ f 16 ∷ [])
 
 each-at : (f : ℕ → Bool) → each f ≡ true → (s : ElementSize) → f (bytesOf s) ≡ true
-each-at f e s =
-    let p = and-parts (f 1 && f 2 && f 4 && f 8) (f 16) e in
-    let q = and-parts (f 1 && f 2 && f 4) (f 8) (p .0) in
-    let r = and-parts (f 1 && f 2) (f 4) (q .0) in
-    let o = and-parts (f 1) (f 2) (r .0) in
-    at s (o .0) (o .1) (r .1) (q .1) (p .1)
-  where
-    at : (s : ElementSize) → f 1 ≡ true → f 2 ≡ true → f 4 ≡ true → f 8 ≡ true → f 16 ≡ true → f (bytesOf s) ≡ true
-    at Bits8 a b c d e = a
-    at Bits16 a b c d e = b
-    at Bits32 a b c d e = c
-    at Bits64 a b c d e = d
-    at Bits128 a b c d e = e
+each-at f e Bits8 = all-at _ e 0
+each-at f e Bits16 = all-at _ e 1
+each-at f e Bits32 = all-at _ e 2
+each-at f e Bits64 = all-at _ e 3
+each-at f e Bits128 = all-at _ e 4
 
 -- the test at a number that is a size, and at two
 pub size-at : (f : ℕ → Bool) → each f ≡ true → (m : ℕ) → isSize m ≡ true → f m ≡ true
@@ -52,13 +45,14 @@ after a b e f = ⊎-elim (λ p. absurd (clash a p f)) (λ p. p) (or-parts a b e)
 
 -- a size is not 0 and at most 16
 pub size-range : (m : ℕ) → isSize m ≡ true → (0 < m) × (m ≤ 16)
+unfolding allOf
 size-range m e =
     let p = and-parts (leb 1 m) (leb m 16) (size-at (λ k. leb 1 k && leb k 16) refl m e) in
     (leb-true 1 m (p .0), leb-true m 16 (p .1))
 
 -- the parts of a tile are a size's bytes again, and turn back into its bytes
 pub size-parts : (m : ℕ) → isSize m ≡ true → (isSize (16 / m) ≡ true) × (16 / (16 / m) ≡ m)
-unfolding isSize
+unfolding isSize allOf
 size-parts m e =
     let p = and-parts (isSize (16 / m)) (eqb (16 / (16 / m)) m) (size-at (λ k. isSize (16 / k) && eqb (16 / (16 / k)) k) refl m e) in
     (p .0, eqb-true _ _ (p .1))
@@ -67,6 +61,7 @@ size-parts m e =
 
 -- a size divides each that is not below it
 pub size-divides : (a b : ℕ) → isSize a ≡ true → isSize b ≡ true → a ≤ b → b % a ≡ 0
+unfolding allOf
 size-divides a b h k w = eqb-true _ _ (after (ltb b a) (eqb (b % a) 0) (pair-at (λ a b. ltb b a || eqb (b % a) 0) refl a b h k) (le-ltb _ _ w))
 
 pub mod-size : (a b : ℕ) → isSize a ≡ true → isSize b ≡ true → a ≤ b → (v : ℕ) → v % b % a ≡ v % a
@@ -80,14 +75,11 @@ pub record Halved (asked parts : ℕ) : Type 0 where
   pub double : 16 / (parts / 2) ≡ 2 * (16 / parts)
 
 pub halved : (a b : ℕ) → isSize a ≡ true → isSize b ≡ true → a < b → Halved a b
-unfolding isSize
+unfolding isSize allOf
 halved a b h k w =
-    let f : ℕ → ℕ → Bool = λ a b. leb b a || (isSize (b / 2) && leb a (b / 2) && ltb (b / 2) b && eqb (16 / (b / 2)) (2 * (16 / b))) in
-    let e = after (leb b a) _ (pair-at f refl a b h k) (lt-leb _ _ w) in
-    let p = and-parts (isSize (b / 2) && leb a (b / 2) && ltb (b / 2) b) (eqb (16 / (b / 2)) (2 * (16 / b))) e in
-    let q = and-parts (isSize (b / 2) && leb a (b / 2)) (ltb (b / 2) b) (p .0) in
-    let r = and-parts (isSize (b / 2)) (leb a (b / 2)) (q .0) in
-    record { size = r .0; within = leb-true _ _ (r .1); fewer = ltb-true _ _ (q .1); double = eqb-true _ _ (p .1) }
+    let f : ℕ → ℕ → Bool = λ a b. leb b a || allOf (isSize (b / 2) ∷ leb a (b / 2) ∷ ltb (b / 2) b ∷ eqb (16 / (b / 2)) (2 * (16 / b)) ∷ []) in
+    let p = all-at (isSize (b / 2) ∷ leb a (b / 2) ∷ ltb (b / 2) b ∷ eqb (16 / (b / 2)) (2 * (16 / b)) ∷ []) (after (leb b a) _ (pair-at f refl a b h k) (lt-leb _ _ w)) in
+    record { size = p 0; within = leb-true _ _ (p 1); fewer = ltb-true _ _ (p 2); double = eqb-true _ _ (p 3) }
 
 -- ---- halves, for any m
 

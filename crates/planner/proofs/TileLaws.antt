@@ -10,10 +10,10 @@ use native.Mathlib.Nat.{mod-lt, mod-eq-of-lt}
 use native.Mathlib.Omega.{arith}
 use lib.Dec.{eqb, ltb}
 use borrow.Author.Tests.{eqb-true, eq-eqb, ne-eqb, ltb-true, lt-ltb}
-use Rattle.encoding.proofs.BoolLaws.{and-parts, and-both, by-test, refute, clash}
-use Rattle.tiles.specs.Least.{least, isSome}
-use Rattle.tiles.proofs.LeastLaws.{least-none, least-some}
-use Rattle.planner.specs.Tile.{isSize, isTile, covers, shares, same}
+use Rattle.general.proofs.BoolLaws.{and-parts, and-both, by-test, refute, clash}
+use Rattle.general.specs.Least.{least, isSome}
+use Rattle.general.proofs.LeastLaws.{least-none, least-some}
+use Rattle.planner.specs.Tile.{isSize, isTile, covers, shares, isSame}
 use Rattle.planner.specs.declared.tile.Tile.{Tile}
 use Rattle.planner.proofs.SizeLaws.{size-range, mod-size}
 
@@ -111,10 +111,10 @@ shares-inside x y px py h = go (ℕ-discrete (y .number % x .bytes) (x .number))
 pub shares-own : (x : Tile) → Exists x → shares x x ≡ true
 shares-own x p = common-shares x x p p (x .number) (covers-own x p) (covers-own x p)
 
-pub same-is : (x y : Tile) → same x y ≡ true → x ≡ y
+pub same-is : (x y : Tile) → isSame x y ≡ true → x ≡ y
 same-is x y e =
     let p = and-parts (eqb (x .bytes) (y .bytes)) (eqb (x .number) (y .number)) e in
     λ i. record { bytes = eqb-true (x .bytes) (y .bytes) (p .0) i; number = eqb-true (x .number) (y .number) (p .1) i }
 
-pub same-own : (x : Tile) → same x x ≡ true
+pub same-own : (x : Tile) → isSame x x ≡ true
 same-own x = and-both _ _ (eq-eqb (x .bytes) (x .bytes) refl) (eq-eqb (x .number) (x .number) refl)

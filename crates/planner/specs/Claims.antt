@@ -7,7 +7,7 @@ use mathlib.Core.List.{List, [], _∷_, _++_}
 use mathlib.Core.Logic.{_⊎_}
 use lib.ListN.{length}
 use Rattle.planner.specs.Tile.{tileOf, isSize, isTile}
-use Rattle.planner.specs.Held.{heldOf, heldFrom, validHeld, takeOf, giveUpOf}
+use Rattle.planner.specs.Held.{heldTiles, heldFrom, validHeld, takeOf, giveUpOf}
 use Rattle.planner.specs.Bytes.{Vectors, ByteShared, Halves, tileAt, Apart, SharedBy}
 use Rattle.planner.specs.declared.tile.Tile.{Tile}
 use Rattle.planner.specs.declared.held.Held.{Held}
@@ -21,7 +21,7 @@ Sixteen h = length (h .tiles) ≡ 16
 abbrev pub ValidHeldIsApart : Type 0
 ValidHeldIsApart =
     (S B : ℕ) (h : Held) → Vectors S B →
-    (validHeld h ≡ true → (h .count ≤ 16) × Apart S B (heldOf h)) × (h .count ≤ 16 → Apart S B (heldOf h) → validHeld h ≡ true)
+    (validHeld h ≡ true → (h .count ≤ 16) × Apart S B (heldTiles h)) × (h .count ≤ 16 → Apart S B (heldTiles h) → validHeld h ≡ true)
 
 -- 8 first, then 16, and otherwise 0 or 13; a refusal gives tile 0 and leaves the record
 pub record Answers (h : Held) (m : ℕ) : Type 0 where
@@ -36,11 +36,11 @@ TakingAnswers = (h : Held) (m : ℕ) → Answers h m
 -- a tile t of m bytes was taken: it exists, joins the held ones, shares no byte with them, and every lower number shares one
 pub record Takes (S B : ℕ) (h : Held) (m t : ℕ) (h′ : Held) : Type 0 where
   pub exists : isTile (tileOf m t) ≡ true
-  pub joins : heldOf h′ ≡ heldOf h ++ (tileOf m t ∷ [])
+  pub joins : heldTiles h′ ≡ heldTiles h ++ (tileOf m t ∷ [])
   pub sixteen : Sixteen h′
   pub valid : validHeld h′ ≡ true
-  pub free : SharedBy S B (heldOf h) (tileOf m t) → ⊥
-  pub lowest : (u : ℕ) → u < t → SharedBy S B (heldOf h) (tileOf m u)
+  pub free : SharedBy S B (heldTiles h) (tileOf m t) → ⊥
+  pub lowest : (u : ℕ) → u < t → SharedBy S B (heldTiles h) (tileOf m u)
 
 abbrev pub TakingTakes : Type 0
 TakingTakes =
@@ -51,7 +51,7 @@ TakingTakes =
 pub record Full (S B : ℕ) (h : Held) (m : ℕ) : Type 0 where
   pub size : isSize m ≡ true
   pub valid : validHeld h ≡ true
-  pub none : (t : ℕ) → t < m → SharedBy S B (heldOf h) (tileOf m t)
+  pub none : (t : ℕ) → t < m → SharedBy S B (heldTiles h) (tileOf m t)
 
 abbrev pub NoFreeIsFull : Type 0
 NoFreeIsFull =
@@ -60,7 +60,7 @@ NoFreeIsFull =
 
 -- a tile can be given up exactly if the held ones are valid and it is one of them; a refusal is 16 and leaves the record
 pub record GivingUp (h : Held) : Type 0 where
-  pub held : validHeld h ≡ true → (k : ℕ) → k < length (heldOf h) → giveUpOf h (tileAt (heldOf h) k) .answer ≡ Done
+  pub held : validHeld h ≡ true → (k : ℕ) → k < length (heldTiles h) → giveUpOf h (tileAt (heldTiles h) k) .answer ≡ Done
   pub refused : (x : Tile) → (giveUpOf h x .answer ≡ Done → ⊥) → (giveUpOf h x .answer ≡ BadHeld) × (giveUpOf h x .held ≡ h)
 
 abbrev pub GivingUpAnswers : Type 0
@@ -70,8 +70,8 @@ GivingUpAnswers = (h : Held) → GivingUp h
 pub record GivesUp (h : Held) (x : Tile) (h′ : Held) : Type 0 where
   pub before : List Tile
   pub after : List Tile
-  pub was : heldOf h ≡ before ++ (x ∷ after)
-  pub is : heldOf h′ ≡ before ++ after
+  pub was : heldTiles h ≡ before ++ (x ∷ after)
+  pub is : heldTiles h′ ≡ before ++ after
   pub wasValid : validHeld h ≡ true
   pub sixteen : Sixteen h′
   pub valid : validHeld h′ ≡ true
@@ -82,7 +82,7 @@ GivingUpGives = (h : Held) (x : Tile) → Sixteen h → giveUpOf h x .answer ≡
 -- a tile that was taken can be given up, and the held ones are then those from before
 pub record Undone (h : Held) (x : Tile) (h′ : Held) : Type 0 where
   pub done : giveUpOf h′ x .answer ≡ Done
-  pub held : heldOf (giveUpOf h′ x .held) ≡ heldOf h
+  pub held : heldTiles (giveUpOf h′ x .held) ≡ heldTiles h
 
 abbrev pub TakingUndone : Type 0
 TakingUndone = (h : Held) (m : ℕ) → Sixteen h → takeOf h m .answer ≡ Done → Undone h (tileOf m (takeOf h m .number)) (takeOf h m .held)

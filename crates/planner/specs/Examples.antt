@@ -6,7 +6,7 @@ use mathlib.Core.Path.{_≡_}
 use mathlib.Core.List.{List, [], _∷_, map}
 use lib.ListN.{take, replicate}
 use Rattle.planner.specs.Tile.{tileOf, noTile}
-use Rattle.planner.specs.Held.{answerNumber, heldOf, heldFrom, takeOf, giveUpOf}
+use Rattle.planner.specs.Held.{answerNumber, heldTiles, heldFrom, takeOf, giveUpOf}
 use Rattle.planner.specs.declared.tile.Tile.{Tile}
 use Rattle.planner.specs.declared.held.Held.{Held}
 use Rattle.planner.specs.declared.answer.TileAnswer.the-variants.{Done, BadSize, BadHeld, NoFreeTile}
@@ -18,11 +18,11 @@ numbersOf (x ∷ xs) = x .bytes ∷ x .number ∷ numbersOf xs
 
 -- the answer's number, the tile's number, and the held tiles afterwards
 abbrev pub asks : Held → ℕ → List ℕ
-asks h m = let r = takeOf h m in answerNumber (r .answer) ∷ r .number ∷ numbersOf (heldOf (r .held))
+asks h m = let r = takeOf h m in answerNumber (r .answer) ∷ r .number ∷ numbersOf (heldTiles (r .held))
 
 -- the answer's number, and the held tiles afterwards
 abbrev pub gives : Held → Tile → List ℕ
-gives h x = let r = giveUpOf h x in answerNumber (r .answer) ∷ numbersOf (heldOf (r .held))
+gives h x = let r = giveUpOf h x in answerNumber (r .answer) ∷ numbersOf (heldTiles (r .held))
 
 -- the answer's number and the tile's
 abbrev pub answers : List Tile → List ℕ → List (List ℕ)
@@ -46,7 +46,7 @@ aboveSixteen = 17 ∷ 18 ∷ 256 ∷ 272 ∷ 0x1_0000_0000 ∷ 0xFFFF_FFFF_FFFF_
 abbrev pub counted : ℕ → Held
 counted n = record { tiles = everyPart; count = n }
 
-pub record ExamplesHold : Type 0 where
+pub record TakingExamplesHold : Type 0 where
   -- nothing is held: tile 0 of each size
   pub nothing : answers [] everySize ≡ replicate 5 (0 ∷ 0 ∷ [])
   pub first : asks (heldFrom []) 4 ≡ 0 ∷ 0 ∷ 4 ∷ 0 ∷ []

@@ -3,11 +3,13 @@
 -- tile 0 and leaves the record as it was. A tile that is taken stands after the others, and no tile after those that giving up leaves (docs/DECISIONS.md).
 -- Assumes nothing.
 use Prim.Native.Nat.{ℕ, _+_, _-_}
-use mathlib.Core.Bool.{Bool, cond, _&&_}
+use mathlib.Core.Path.{_≡_}
+use mathlib.Core.Bool.{Bool, cond, not, _&&_}
 use mathlib.Core.List.{List, _++_}
 use mathlib.Core.Option.{Option, none, some}
 use lib.Dec.{leb}
 use lib.ListN.{length, take, set, replicate}
+use Rattle.general.specs.Least.{isSome}
 use Rattle.settings.specs.Answer.{done, outOfRange, noFreeTile, badHeld}
 use Rattle.planner.specs.Tile.{tileOf, noTile, isSize, isValid, lowestFree, isAmong, without}
 use Rattle.planner.specs.declared.tile.Tile.{Tile}
@@ -25,12 +27,12 @@ answerNumber BadHeld = badHeld
 answerNumber NoFreeTile = noFreeTile
 
 -- the tiles that a record holds: the first `count` of its sixteen
-abbrev pub heldOf : Held → List Tile
-heldOf h = take (h .count) (h .tiles)
+abbrev pub heldTiles : Held → List Tile
+heldTiles h = take (h .count) (h .tiles)
 
 -- more than sixteen tiles cannot be held: two of them would share a byte
 abbrev pub validHeld : Held → Bool
-validHeld h = leb (h .count) 16 && isValid (heldOf h)
+validHeld h = leb (h .count) 16 && isValid (heldTiles h)
 
 -- ---- taking
 
@@ -47,7 +49,16 @@ taken h m (some t) = record { answer = Done; number = t; held = joined h (tileOf
 
 -- what asking for a tile of m bytes gives
 unfoldable pub takeOf : Held → ℕ → Taken
-takeOf h m = cond (isSize m) (cond (validHeld h) (taken h m (lowestFree (heldOf h) m)) (refused BadHeld h)) (refused BadSize h)
+takeOf h m = cond (isSize m) (cond (validHeld h) (taken h m (lowestFree (heldTiles h) m)) (refused BadHeld h)) (refused BadSize h)
+
+-- the number of the answer, by the order of request 9: 8, then 16, then 13
+abbrev pub takeNumber : Held → ℕ → ℕ
+takeNumber h m = cond (not (isSize m)) outOfRange (cond (not (validHeld h)) badHeld (cond (isSome (lowestFree (heldTiles h) m)) done noFreeTile))
+
+-- what taking promises: the result, and the number of its answer
+pub record TakesOne (h : Held) (m : ℕ) (r : Taken) : Type 0 where
+  pub equal : r ≡ takeOf h m
+  pub number : answerNumber (r .answer) ≡ takeNumber h m
 
 -- ---- giving up
 
@@ -61,4 +72,12 @@ leaving a h = record { answer = a; held = h }
 
 -- what giving up a tile gives
 unfoldable pub giveUpOf : Held → Tile → GivenUp
-giveUpOf h x = cond (validHeld h && isAmong (heldOf h) x) (leaving Done (heldFrom (without (heldOf h) x))) (leaving BadHeld h)
+giveUpOf h x = cond (validHeld h && isAmong (heldTiles h) x) (leaving Done (heldFrom (without (heldTiles h) x))) (leaving BadHeld h)
+
+abbrev pub giveUpNumber : Held → Tile → ℕ
+giveUpNumber h x = cond (validHeld h && isAmong (heldTiles h) x) done badHeld
+
+-- what giving up promises: the result, and the number of its answer
+pub record GivesUpOne (h : Held) (x : Tile) (r : GivenUp) : Type 0 where
+  pub equal : r ≡ giveUpOf h x
+  pub number : answerNumber (r .answer) ≡ giveUpNumber h x

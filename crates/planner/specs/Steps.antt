@@ -7,7 +7,7 @@ use mathlib.Core.List.{List}
 use mathlib.Core.Option.{Option, none, some}
 use lib.Dec.{eqb}
 use lib.ListN.{getD}
-use Rattle.tiles.specs.Least.{least}
+use Rattle.general.specs.Least.{least}
 use Rattle.planner.specs.Tile.{tileOf, noTile, isTile, isFree}
 use Rattle.planner.specs.declared.tile.Tile.{Tile}
 use Rattle.planner.specs.declared.held.Held.{Held}

@@ -7,8 +7,8 @@ use mathlib.Core.Bool.{Bool, true, false, cond, not, _&&_, _||_}
 use mathlib.Core.List.{List, [], _∷_}
 use mathlib.Core.Option.{Option}
 use lib.Dec.{eqb, ltb}
-use Rattle.encoding.specs.Flat.{bytesOf, sizeOf}
-use Rattle.tiles.specs.Least.{least, isSome}
+use Rattle.tiles.specs.Element.{bytesOf, sizeOf}
+use Rattle.general.specs.Least.{least, isSome}
 use Rattle.planner.specs.declared.tile.Tile.{Tile}
 
 -- m is the bytes of an element: those of the size that m is read as
@@ -49,14 +49,14 @@ abbrev pub lowestFree : List Tile → ℕ → Option ℕ
 lowestFree l m = least (λ t. isFree l (tileOf m t)) m
 
 -- the same tile: of one size, with one number
-abbrev pub same : Tile → Tile → Bool
-same x y = eqb (x .bytes) (y .bytes) && eqb (x .number) (y .number)
+abbrev pub isSame : Tile → Tile → Bool
+isSame x y = eqb (x .bytes) (y .bytes) && eqb (x .number) (y .number)
 
 unfoldable pub isAmong : List Tile → Tile → Bool
 isAmong [] x = false
-isAmong (y ∷ ys) x = same y x || isAmong ys x
+isAmong (y ∷ ys) x = isSame y x || isAmong ys x
 
 -- a list without a tile, the others in their order
 unfoldable pub without : List Tile → Tile → List Tile
 without [] x = []
-without (y ∷ ys) x = cond (same y x) (without ys x) (y ∷ without ys x)
+without (y ∷ ys) x = cond (isSame y x) (without ys x) (y ∷ without ys x)

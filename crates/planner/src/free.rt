@@ -6,14 +6,14 @@ ghost use mathlib.Core.Path.{_≡_};
 ghost use mathlib.Core.Bool.{true};
 ghost use Prim.Native.Nat.{_/_, _<_, _≤_};
 ghost use Rattle.planner.specs.Tile.{isSize};
-ghost use Rattle.planner.specs.Held.{heldOf, validHeld};
+ghost use Rattle.planner.specs.Held.{heldTiles, validHeld};
 ghost use Rattle.planner.specs.Steps.{lowestIn};
 
 // The lowest-numbered free tile of `asked` parts inside tile `number` of `parts` parts, or 16, which no tile has
 // for a number: the lower of what the two halves have. The parts fall from 16, the whole of ZA, to those asked for.
 pub fn lowest_free(held: Held, asked: u64, parts: u64, number: u64) -> u64
     requires { ⌜ (isSize asked ≡ true) × (isSize parts ≡ true) × (asked ≤ parts) × (number < 16 / parts) × (validHeld held ≡ true) ⌝ }
-    ensures { λ r. ⌜ r ≡ lowestIn (heldOf held) (16 / asked) (16 / parts) number ⌝ }
+    ensures { λ r. ⌜ r ≡ lowestIn (heldTiles held) (16 / asked) (16 / parts) number ⌝ }
 {
     let bytes = 16 / parts;
     if parts == asked {

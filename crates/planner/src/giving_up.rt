@@ -9,13 +9,13 @@ use crate::tile::is_same;
 ghost use mathlib.Core.Path.{_≡_};
 ghost use mathlib.Core.Bool.{cond};
 ghost use Prim.Native.Nat.{_<_};
-ghost use Rattle.planner.specs.Tile.{same};
-ghost use Rattle.planner.specs.Held.{joined, giveUpOf};
+ghost use Rattle.planner.specs.Tile.{isSame};
+ghost use Rattle.planner.specs.Held.{joined, GivesUpOne};
 
 // The held tiles with one more, unless it is the one to give up.
 fn keep(held: Held, y: Tile, x: Tile) -> Held
     requires { ⌜ held .count < 16 ⌝ }
-    ensures { λ r. ⌜ r ≡ cond (same y x) held (joined held y) ⌝ }
+    ensures { λ r. ⌜ r ≡ cond (isSame y x) held (joined held y) ⌝ }
 {
     if is_same(y, x) {
         return held;
@@ -25,7 +25,7 @@ fn keep(held: Held, y: Tile, x: Tile) -> Held
 
 // The held tiles but one, which must be held.
 pub fn give_up(held: Held, x: Tile) -> GivenUp
-    ensures { λ r. ⌜ r ≡ giveUpOf held x ⌝ }
+    ensures { λ r. ⌜ GivesUpOne held x r ⌝ }
 {
     if !is_valid(held) {
         return GivenUp {

@@ -7,7 +7,7 @@ ghost use mathlib.Core.Bool.{true};
 ghost use Prim.Native.Nat.{_<_, _≤_};
 ghost use lib.ListN.{drop};
 ghost use Rattle.planner.specs.Tile.{isTile, isFree};
-ghost use Rattle.planner.specs.Held.{heldOf, validHeld, joined};
+ghost use Rattle.planner.specs.Held.{heldTiles, validHeld, joined};
 ghost use Rattle.planner.specs.Steps.{TilesFrom};
 
 // The first `count` of sixteen tiles: no more can be held, since no more can share no byte.
@@ -19,7 +19,7 @@ pub struct Held {
 // Whether a tile shares no byte with those that are held from place `from` on.
 pub fn is_free(held: Held, from: usize, x: Tile) -> bool
     requires { ⌜ (from ≤ held .count) × (isTile x ≡ true) × TilesFrom held from ⌝ }
-    ensures { λ r. ⌜ r ≡ isFree (drop from (heldOf held)) x ⌝ }
+    ensures { λ r. ⌜ r ≡ isFree (drop from (heldTiles held)) x ⌝ }
 {
     let n = held.count;
     let mut i = from;

@@ -8,7 +8,7 @@ use crate::held::join;
 use crate::tile::Tile;
 use crate::tile::is_size;
 ghost use mathlib.Core.Path.{_≡_};
-ghost use Rattle.planner.specs.Held.{refused, takeOf};
+ghost use Rattle.planner.specs.Held.{refused, TakesOne};
 
 fn refuse(answer: TileAnswer, held: Held) -> Taken
     ensures { λ r. ⌜ r ≡ refused answer held ⌝ }
@@ -22,7 +22,7 @@ fn refuse(answer: TileAnswer, held: Held) -> Taken
 
 // The lowest-numbered tile with elements of so many bytes that shares no byte with a held one; it joins them.
 pub fn take(held: Held, bytes: u64) -> Taken
-    ensures { λ r. ⌜ r ≡ takeOf held bytes ⌝ }
+    ensures { λ r. ⌜ TakesOne held bytes r ⌝ }
 {
     if !is_size(bytes) {
         return refuse(TileAnswer::BadSize, held);

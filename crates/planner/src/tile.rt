@@ -1,8 +1,8 @@
 // Tiles as numbers: which of them exist, and which share a byte.
-use encoding::ElementSize;
+use tiles::ElementSize;
 ghost use mathlib.Core.Path.{_≡_};
 ghost use mathlib.Core.Bool.{true};
-ghost use Rattle.planner.specs.Tile.{isSize, isTile, shares, same};
+ghost use Rattle.planner.specs.Tile.{isSize, isTile, shares, isSame};
 
 // A tile of ZA: the bytes of its elements and its number among the tiles of that size. Any numbers can be
 // in a record, so that a tile that does not exist can be named too.
@@ -44,7 +44,7 @@ pub fn is_shared(x: Tile, y: Tile) -> bool
 }
 
 pub fn is_same(x: Tile, y: Tile) -> bool
-    ensures { λ r. ⌜ r ≡ same x y ⌝ }
+    ensures { λ r. ⌜ r ≡ isSame x y ⌝ }
 {
     if x.bytes == y.bytes {
         x.number == y.number

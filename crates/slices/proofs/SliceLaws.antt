@@ -5,14 +5,14 @@ use mathlib.Core.Bool.{true}
 use Prim.Native.Nat.{ℕ, _+_, _*_, _-_, _/_, _%_, _<_, _≤_}
 use native.Mathlib.Nat.{add-mul, mul-assoc, mul-le-mul, mul-le-mul-left}
 use native.Mathlib.Omega.{arith}
-use Rattle.settings.specs.Settings.{isVectorLength}
-use Rattle.encoding.specs.Flat.{bytesOf}
-use Rattle.encoding.specs.declared.operation.ElementSize.{ElementSize}
-use Rattle.encoding.specs.declared.operation.Direction.{Direction}
-use Rattle.encoding.specs.declared.operation.Direction.the-variants.{Horizontal, Vertical}
-use Rattle.tiles.specs.Scatter.{from}
+use Rattle.settings.specs.Settings.{isVectorLength, maxVectorBytes}
+use Rattle.tiles.specs.Element.{bytesOf}
+use Rattle.tiles.specs.declared.element.ElementSize.{ElementSize}
+use Rattle.tiles.specs.declared.direction.Direction.{Direction}
+use Rattle.tiles.specs.declared.direction.Direction.the-variants.{Horizontal, Vertical}
+use Rattle.general.specs.Scatter.{onwards}
 use Rattle.tiles.specs.Tile.{byteOf, sliceAt}
-use Rattle.tiles.proofs.LengthLaws.{whole}
+use Rattle.tiles.proofs.LengthLaws.{whole-elements}
 use Rattle.tiles.proofs.TileLaws.{byteOf-within}
 use Rattle.moves.specs.Column.{strided}
 use Rattle.slices.specs.Slice.{Placed, sliceStart, sliceStep}
@@ -31,7 +31,7 @@ module _ (S m t : ℕ) where
   sliceAt-strided d s = fun-ext (λ k. sliceStart-byte d s (k / m) (k % m))
 
   -- as code names them: a horizontal slice is a run from its start
-  pub slice-run : (d : Direction) (s start : ℕ) → start ≡ sliceStart S m t d s → d ≡ Horizontal → from start ≡ sliceAt S m t d s
+  pub slice-run : (d : Direction) (s start : ℕ) → start ≡ sliceStart S m t d s → d ≡ Horizontal → onwards start ≡ sliceAt S m t d s
   slice-run d s start p q =
       rw (p, q) (sym (strided-from (sliceStart S m t Horizontal s) m) ∙ sliceAt-strided Horizontal s)
 
@@ -43,7 +43,7 @@ module _ (S m t : ℕ) where
 step-vertical : (S m : ℕ) (d : Direction) {r : ℕ} → r ≡ m → d ≡ Vertical → r * S ≡ sliceStep S m d
 step-vertical S m d p q = rw (p, q)
 
-below-256 : (a b : ℕ) → a ≤ 256 → b ≤ 256 → a * b ≤ 65536
+below-256 : (a b : ℕ) → a ≤ maxVectorBytes → b ≤ maxVectorBytes → a * b ≤ 65536
 below-256 a b h k = mul-le-mul h k
 
 module _ (S B m n t s : ℕ) (h : Placed S B m n t s) where
@@ -80,7 +80,7 @@ module _ (S B m n t s : ℕ) (h : Placed S B m n t s) where
   products-small =
       let v = vector-below in
       let e = block-within s m n (h .slice) in
-      let short : B ≤ 256 = omega (arith, h .fit, h .longest) in
+      let short : B ≤ maxVectorBytes = omega (arith, h .fit, h .longest) in
       let within : m ≤ B = omega (arith, h .size) in
       (below-256 (s * m + t) S (omega arith) (h .longest), below-256 t S (omega (arith, h .tile)) (h .longest), below-256 m S (omega arith) (h .longest))
 
@@ -98,7 +98,7 @@ columned S B m n t s h d p q v c =
 -- a slice of a tile in vectors that start B apart
 pub placed : (size : ElementSize) (B t s : ℕ) → isVectorLength B ≡ true → t < bytesOf size → s < B / bytesOf size → Placed B B (bytesOf size) (B / bytesOf size) t s
 placed size B t s v below slice =
-    let w = whole size B v in
+    let w = whole-elements size B v in
     record {
       size = w .elements;
       fit = omega arith;

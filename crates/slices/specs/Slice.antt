@@ -3,14 +3,15 @@
 -- Assumes nothing.
 use mathlib.Core.Path.{_≡_}
 use Prim.Native.Nat.{ℕ, _+_, _*_, _%_, _≤_, _<_}
-use Rattle.encoding.specs.declared.operation.Direction.{Direction}
-use Rattle.encoding.specs.declared.operation.Direction.the-variants.{Horizontal, Vertical}
+use Rattle.settings.specs.Settings.{maxVectorBytes}
+use Rattle.tiles.specs.declared.direction.Direction.{Direction}
+use Rattle.tiles.specs.declared.direction.Direction.the-variants.{Horizontal, Vertical}
 
 -- slice s of tile t, of n elements of m bytes, in vectors of B bytes that start S apart
 pub record Placed (S B m n t s : ℕ) : Type 0 where
   pub size : n * m ≡ B
   pub fit : B ≤ S
-  pub longest : S ≤ 256
+  pub longest : S ≤ maxVectorBytes
   pub sixteens : B % 16 ≡ 0
   pub tile : t < m
   pub slice : s < n

@@ -3,19 +3,20 @@
 ghost use mathlib.Core.Path.{_≡_};
 ghost use Prim.Native.Nat.{ℕ, _+_, _*_, _/_, _≤_};
 ghost use lib.ListN.{length, getD};
-ghost use Rattle.encoding.specs.Flat.{bytesOf};
-ghost use Rattle.tiles.specs.Scatter.{scatter, all, zeros, from};
+ghost use Rattle.tiles.specs.Element.{bytesOf};
+ghost use Rattle.general.specs.Scatter.{scatter, all, zeros, onwards};
 ghost use Rattle.tiles.specs.Predicate.{active};
 ghost use Rattle.tiles.specs.Tile.{sliceAt};
 ghost use Rattle.slices.specs.Slice.{Placed, sliceStart};
-use encoding::Direction;
-use encoding::ElementSize;
 use moves::clear_bytes;
 use moves::copy_column;
 use moves::copy_vector;
 use moves::merge_column;
 use moves::merge_vector;
 use moves::take_column;
+use tiles::Direction;
+use tiles::ElementSize;
+use tiles::elements_in;
 
 // The index of a slice's first byte.
 fn slice_start(
@@ -33,19 +34,6 @@ fn slice_start(
     match direction {
         Direction::Horizontal => (slice * m + tile) * stride,
         Direction::Vertical => tile * stride + slice * m,
-    }
-}
-
-// How many elements a vector has: shifts, where a division by their bytes would be slow.
-pub fn elements_in(vector_bytes: usize, size: ElementSize) -> usize
-    ensures { λ r. ⌜ r ≡ «vector_bytes» / bytesOf size ⌝ }
-{
-    match size {
-        ElementSize::Bits8 => vector_bytes,
-        ElementSize::Bits16 => vector_bytes / 2,
-        ElementSize::Bits32 => vector_bytes / 4,
-        ElementSize::Bits64 => vector_bytes / 8,
-        ElementSize::Bits128 => vector_bytes / 16,
     }
 }
 
@@ -95,7 +83,7 @@ pub fn take_slice(
 )
     requires { ⌜ Placed stride «vector_bytes» (bytesOf size) («vector_bytes» / bytesOf size) tile slice ⌝ }
     requires { ⌜ («vector_bytes» * stride ≤ length (now za)) × (zbase + «vector_bytes» ≤ length (now z)) ⌝ }
-    ensures { λ _. ⌜ now (z .exit) ≡ scatter (from zbase) all (λ (k : ℕ). getD (now (za .entry)) (sliceAt stride (bytesOf size) tile direction slice k) 0) «vector_bytes» (now (z .entry)) ⌝ }
+    ensures { λ _. ⌜ now (z .exit) ≡ scatter (onwards zbase) all (λ (k : ℕ). getD (now (za .entry)) (sliceAt stride (bytesOf size) tile direction slice k) 0) «vector_bytes» (now (z .entry)) ⌝ }
     ensures { λ _. ⌜ now (za .exit) ≡ scatter (sliceAt stride (bytesOf size) tile direction slice) all zeros «vector_bytes» (now (za .entry)) ⌝ }
 {
     let start = slice_start(stride, vector_bytes, size, tile, direction, slice);
@@ -129,7 +117,7 @@ pub fn merge_from_slice(
 )
     requires { ⌜ Placed stride «vector_bytes» (bytesOf size) («vector_bytes» / bytesOf size) tile slice ⌝ }
     requires { ⌜ («vector_bytes» * stride ≤ length (now za)) × («at_dst» + «vector_bytes» ≤ length (now dst)) × (pbase + «vector_bytes» / 8 ≤ length (now p)) ⌝ }
-    ensures { λ _. ⌜ now (dst .exit) ≡ scatter (from «at_dst») (active (now (p .entry)) pbase (bytesOf size)) (λ (k : ℕ). getD (now (za .entry)) (sliceAt stride (bytesOf size) tile direction slice k) 0) «vector_bytes» (now (dst .entry)) ⌝ }
+    ensures { λ _. ⌜ now (dst .exit) ≡ scatter (onwards «at_dst») (active (now (p .entry)) pbase (bytesOf size)) (λ (k : ℕ). getD (now (za .entry)) (sliceAt stride (bytesOf size) tile direction slice k) 0) «vector_bytes» (now (dst .entry)) ⌝ }
 {
     let start = slice_start(stride, vector_bytes, size, tile, direction, slice);
     match direction {
@@ -185,7 +173,7 @@ pub fn copy_from_slice(
 )
     requires { ⌜ Placed stride «vector_bytes» (bytesOf size) («vector_bytes» / bytesOf size) tile slice ⌝ }
     requires { ⌜ («vector_bytes» * stride ≤ length (now za)) × («at_dst» + «vector_bytes» ≤ length (now dst)) ⌝ }
-    ensures { λ _. ⌜ now (dst .exit) ≡ scatter (from «at_dst») all (λ (k : ℕ). getD (now (za .entry)) (sliceAt stride (bytesOf size) tile direction slice k) 0) «vector_bytes» (now (dst .entry)) ⌝ }
+    ensures { λ _. ⌜ now (dst .exit) ≡ scatter (onwards «at_dst») all (λ (k : ℕ). getD (now (za .entry)) (sliceAt stride (bytesOf size) tile direction slice k) 0) «vector_bytes» (now (dst .entry)) ⌝ }
 {
     let start = slice_start(stride, vector_bytes, size, tile, direction, slice);
     match direction {

@@ -8,11 +8,11 @@ use mathlib.Core.Logic.{⊎-elim}
 use native.Mathlib.Omega.{arith}
 use types.Run.{OneOf}
 use denote.Enum.Declared.{tagOf}
-use Rattle.settings.specs.Answer.{done, badSettings, checkedNumber}
+use Rattle.settings.specs.Answer.{done, badSettings, checkedNumber, Answer}
 use Rattle.settings.specs.Settings.{isVectorLength, Measures}
 use Rattle.settings.specs.declared.Checked.{Checked}
 use Rattle.settings.specs.declared.Checked.the-variants.{Valid, BadSettings}
-use Rattle.encoding.specs.Answer.{Answer, decodedAnswer}
+use Rattle.encoding.specs.Answer.{decodedAnswer}
 use Rattle.encoding.specs.Codec.{Decodes}
 use Rattle.encoding.specs.Flat.{flatOf}
 use Rattle.encoding.specs.declared.operation.Operation.{Operation}

@@ -1,8 +1,10 @@
 // What hosts link: functions over numbers and slices, which only call the crates below.
 ghost use mathlib.Core.Path.{_≡_};
+ghost use Rattle.settings.specs.Settings.{settingsOf, checkNumber};
+ghost use Rattle.semantics.specs.State.{stateOf};
 ghost use Rattle.planner.specs.Tile.{tileOf};
 ghost use Rattle.lent_tiles.specs.Lent.{TakesTile, GivesUpTile};
-ghost use Rattle.sme_move.specs.Export.{Exports, DecodeExports, EncodeExports, checkNumber, LengthExports};
+ghost use Rattle.sme_move.specs.Export.{settingsWith, Exports, DecodeExports, EncodeExports, LengthExports};
 use encoding::Decoded;
 use settings::Settings;
 
@@ -24,7 +26,7 @@ pub extern "C" fn sme_execute(
     memory: &mut [u8],
     address: &mut u64,
 ) -> u32
-    ensures { λ r. ⌜ Exports (record { «vector_bytes» = «vector_bytes»; level = level; streaming = streaming; za = «za_on»; «memory_address» = «memory_address» }) word (now (x .entry)) (now (p .entry)) (record { z = now (z .entry); za = now (za .entry); memory = now (memory .entry) }) r (now (address .exit)) (record { z = now (z .exit); za = now (za .exit); memory = now (memory .exit) }) ⌝ }
+    ensures { λ r. ⌜ Exports (settingsWith «vector_bytes» level streaming «za_on» «memory_address») word (stateOf (now (x .entry)) (now (z .entry)) (now (p .entry)) (now (za .entry)) (now (memory .entry))) r (now (address .exit)) (stateOf (now (x .entry)) (now (z .exit)) (now (p .entry)) (now (za .exit)) (now (memory .exit))) ⌝ }
 {
     let settings = Settings {
         vector_bytes: vector_bytes,
@@ -67,7 +69,7 @@ pub extern "C" fn sme_encode(fields: &[u8; 11], word: &mut u32) -> u32
 // 0 where settings may have this vector length and feature level, else 1.
 #[no_mangle]
 pub extern "C" fn sme_check_settings(vector_bytes: u64, level: u64) -> u32
-    ensures { λ r. ⌜ r ≡ checkNumber «vector_bytes» level ⌝ }
+    ensures { λ r. ⌜ r ≡ checkNumber (settingsOf «vector_bytes» level) ⌝ }
 {
     let made = Settings::new(vector_bytes, level);
     let answer = made.answer;

@@ -13,7 +13,7 @@ use lib.ListN.{length, getD, take, drop}
 use lib.Seq.{take-all}
 use borrow.Author.Tests.{lt-ltb, le-ltb, le-leb, lt-leb, ltb-true}
 use Rattle.io.specs.Digits.{digits, Fewest}
-use Rattle.text.specs.Digits.{hexDigits, decimalIn, decimalOf, valueOf, allDigits, numberOf, parseOf}
+use Rattle.text.specs.Digits.{hexDigits, decimalIn, decimalOf, valueOf, allDigits, numberRead, parseOf}
 use Rattle.text.specs.declared.digits.Parsed.the-variants.{Number, Malformed}
 
 -- k digits are k bytes, and the last k are what dropping the others leaves
@@ -79,16 +79,16 @@ pub allDigits-suc : (ds : List ℕ) (k : ℕ) → allDigits ds k ≡ true → va
 allDigits-suc ds k all h = rw (all, lt-ltb (valueOf (getD ds k 0)) 16 (omega arith))
 
 -- k digits make a number below 16 ^ k, and below any larger power
-numberOf-below : (ds : List ℕ) (k : ℕ) → allDigits ds k ≡ true → numberOf ds k < 16 ^ k
+numberOf-below : (ds : List ℕ) (k : ℕ) → allDigits ds k ≡ true → numberRead ds k < 16 ^ k
 numberOf-below ds zero all = omega arith
 numberOf-below ds (suc k) all =
     let parts = and-eq-true-iff (allDigits ds k) (ltb (valueOf (getD ds k 0)) 16) .0 all in
-    let before : numberOf ds k < 16 ^ k = numberOf-below ds k (parts .0) in
+    let before : numberRead ds k < 16 ^ k = numberOf-below ds k (parts .0) in
     let last : valueOf (getD ds k 0) < 16 = ltb-true _ _ (parts .1) in
     rw pow-suc (omega arith)
 
-pub numberOf-fits : (ds : List ℕ) (k n : ℕ) → k ≤ n → allDigits ds k ≡ true → numberOf ds k < 16 ^ n
-numberOf-fits ds k n h all = lt-of-lt-of-le (numberOf-below ds k all) (pow-le-pow-right (lit< tt) h)
+pub numberRead-fits : (ds : List ℕ) (k n : ℕ) → k ≤ n → allDigits ds k ≡ true → numberRead ds k < 16 ^ n
+numberRead-fits ds k n h all = lt-of-lt-of-le (numberOf-below ds k all) (pow-le-pow-right (lit< tt) h)
 
 -- what reading gives: for too many bytes, for one that is no digit, and for digits
 pub parse-long : (ds : List ℕ) → 8 < length ds → Malformed ≡ parseOf ds
@@ -99,6 +99,6 @@ pub parse-bad : (ds : List ℕ) (k : ℕ) → k < length ds → 15 < valueOf (ge
 unfolding parseOf
 parse-bad ds k h bad = rw (allDigits-fails ds k (length ds) h bad, and-false)
 
-pub parse-good : (ds : List ℕ) → length ds ≤ 8 → allDigits ds (length ds) ≡ true → Number (numberOf ds (length ds)) ≡ parseOf ds
+pub parse-good : (ds : List ℕ) → length ds ≤ 8 → allDigits ds (length ds) ≡ true → Number (numberRead ds (length ds)) ≡ parseOf ds
 unfolding parseOf
 parse-good ds h all = rw (le-leb (length ds) 8 h, all)

@@ -42,10 +42,10 @@ allDigits ds zero = true
 allDigits ds (suc k) = allDigits ds k && ltb (valueOf (getD ds k 0)) 16
 
 -- the number that the first k digits are
-abbrev pub numberOf : List ℕ → ℕ → ℕ
-numberOf ds zero = 0
-numberOf ds (suc k) = numberOf ds k * 16 + valueOf (getD ds k 0)
+abbrev pub numberRead : List ℕ → ℕ → ℕ
+numberRead ds zero = 0
+numberRead ds (suc k) = numberRead ds k * 16 + valueOf (getD ds k 0)
 
 -- the number that at most eight digits are
 unfoldable pub parseOf : List ℕ → Parsed
-parseOf ds = cond (leb (length ds) 8 && allDigits ds (length ds)) (Number (numberOf ds (length ds))) Malformed
+parseOf ds = cond (leb (length ds) 8 && allDigits ds (length ds)) (Number (numberRead ds (length ds))) Malformed

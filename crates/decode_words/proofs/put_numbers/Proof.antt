@@ -23,9 +23,6 @@ abbrev μ-loop : tie.MeasureT-loop
 loop-holds : tie.Need-loop-holds Inv-loop μ-loop
 loop-holds c = (omega arith, puts-nothing (omega arith))
 
-cast-put-decimal : tie.Need-cast-put-decimal Inv-loop μ-loop
-cast-put-decimal c = omega (arith, c .shared-slice-known2 .given (c .before .before .before .loop .i))
-
 loop-again : tie.Need-loop-again Inv-loop μ-loop
 loop-again c =
     let at-space = c .before .before in
@@ -48,7 +45,7 @@ put-numbers-spec =
     μ-loop
     loop-holds
     (λ c. search needs)
-    cast-put-decimal
+    (λ c. omega (arith, c .shared-slice-known2 .given (c .before .before .before .loop .i)))
     (λ c κs. search needs)
     (λ c κs. search needs)
     (λ c. search needs)

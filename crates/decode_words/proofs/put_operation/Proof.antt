@@ -18,7 +18,7 @@ returns c =
     let at-numbers = at-encode .before .before .before .before .before in
     let at-space = at-numbers .before .before .before .before .before in
     let flat = at-space .before .before .flatten .ensures in
-    let word = at-hex .before .word .ensures ∙ ap encodedWord (at-encode .encode-flat .ensures ∙ ap encodeFlatOf flat) in
+    let word = at-hex .before .word .ensures ∙ ap encodedWord (at-encode .encode-flat .ensures .equal ∙ ap encodeFlatOf flat) in
     puts-append
     (puts-append (at-space .put-byte .ensures) (puts-cong (ap numbersText flat) (at-numbers .put-numbers .ensures)))
     (puts-cong (ap (hexDigits 8) word) (at-hex .put-hex .ensures))

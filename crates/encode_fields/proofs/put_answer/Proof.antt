@@ -14,7 +14,7 @@ returns c =
     let at-encoded = c .before .before in
     let at-question = at-encoded .before .before .before .before .before .before in
     let numbers = at-question .before .before .numbers-of .ensures in
-    let encoded = at-encoded .before .encode-flat .ensures ∙ ap encodeFlatOf numbers in
+    let encoded = at-encoded .before .encode-flat .ensures .equal ∙ ap encodeFlatOf numbers in
     puts-append (at-question .put-question .ensures) (puts-cong (ap encodedText encoded) (at-encoded .put-encoded .ensures))
 
 pub put-answer-spec : {M : Type 1} → statement M

@@ -1,79 +1,57 @@
 -- `encoder::encode_from_tile` meets its contract: each refusal is outside the range that the row asks, and past them all the sum is the row's word.
 -- Assumes nothing.
+use mathlib.Core.Path.{sym, _∙_}
 use native.Mathlib.Omega.{arith}
-use Rattle.encoder.proofs.EncoderLaws.{from-tile-encodes, from-tile-refuses}
 use borrow.Author.Needs.{needs}
+use borrow.Author.Tests.{not-true, not-false}
+use Rattle.encoder.proofs.EncoderLaws.{SliceRange, slice-held, slice-outside, from-tile-encodes, from-tile-refuses}
 use Rattle.encoder.proofs.encode_from_tile.Statement.{statement}
 use Rattle.encoder.proofs.encode_from_tile.Tie as tie
 
+-- the slice is held once its test is passed
+held : (c : tie.Else2) → let a = c .before .before .before .args in SliceRange (a .size) (a .index) (a .tile) (a .offset)
+held c = let a = c .before .before .before .args in slice-held (a .size) (a .index) (a .tile) (a .offset) (sym (c .before .is-slice-held .ensures) ∙ not-false _ (c .if2 .left))
+
 returns : tie.Need-returns
-returns c =
-    let entry = c .before in
-    let a = entry .args in
-    from-tile-refuses (a .direction) (a .pg) (a .rs) (a .zan) (a .off) (a .zd) (a .zeroes) (a .size) (entry .pre) (λ h. omega arith)
+returns c = from-tile-refuses _ _ _ _ _ _ _ _ (c .before .pre) (λ h. omega arith)
 
 returns-2 : tie.Need-returns-2
-returns-2 c =
-    let entry = c .before .before in
-    let a = entry .args in
-    from-tile-refuses (a .direction) (a .pg) (a .rs) (a .zan) (a .off) (a .zd) (a .zeroes) (a .size) (entry .pre) (λ h. omega arith)
+returns-2 c = from-tile-refuses _ _ _ _ _ _ _ _ (c .before .before .before .pre) (λ h. slice-outside (c .before .before .before .args .size) (c .before .before .before .args .index) (c .before .before .before .args .tile) (c .before .before .before .args .offset) (sym (c .before .is-slice-held .ensures) ∙ not-true _ (c .if2 .taken)) (h .1, h .2, h .3, h .4))
 
 returns-3 : tie.Need-returns-3
-returns-3 c =
-    let entry = c .before .before .before in
-    let a = entry .args in
-    from-tile-refuses (a .direction) (a .pg) (a .rs) (a .zan) (a .off) (a .zd) (a .zeroes) (a .size) (entry .pre) (λ h. omega arith)
+returns-3 c = from-tile-refuses _ _ _ _ _ _ _ _ (c .before .before .before .before .pre) (λ h. omega arith)
 
 returns-4 : tie.Need-returns-4
 returns-4 c =
-    let entry = c .before .before .before .before .before in
-    let a = entry .args in
-    from-tile-refuses (a .direction) (a .pg) (a .rs) (a .zan) (a .off) (a .zd) (a .zeroes) (a .size) (entry .pre) (λ h. omega arith)
-
-returns-5 : tie.Need-returns-5
-returns-5 c =
-    let entry = c .before .before .before .before .before .before .before in
-    let a = entry .args in
-    from-tile-refuses (a .direction) (a .pg) (a .rs) (a .zan) (a .off) (a .zd) (a .zeroes) (a .size) (entry .pre) (λ h. omega arith)
-
-returns-6 : tie.Need-returns-6
-returns-6 c =
-    let entry = c .before .before .before .before .before .before .before .before in
-    let a = entry .args in
-    from-tile-refuses (a .direction) (a .pg) (a .rs) (a .zan) (a .off) (a .zd) (a .zeroes) (a .size) (entry .pre) (λ h. omega arith)
-
-returns-7 : tie.Need-returns-7
-returns-7 c =
-    let a = c .before .before .before .before .before .before .before .before .before .before .before .before .args in
-    from-tile-encodes (a .direction) (a .pg) (a .rs) (a .zan) (a .off) (a .zd) (a .zeroes) (a .size) _ (omega arith) (omega arith)
+    let tested = c .before .before .before .before .before in
+    let a = tested .before .before .before .args in
+    let s = held tested in
+    from-tile-encodes (a .direction) (a .pg) (a .index) (a .tile) (a .offset) (a .zd) (a .zeroes) (a .size) _ (omega (arith, s)) (omega (arith, s))
 
 pub encode-from-tile-spec : {M : Type 1} → statement M
 encode-from-tile-spec =
     tie.close
     (tie.spec
     returns
+    (λ c κs. search needs)
     returns-2
     returns-3
     (λ c κs. search needs)
-    returns-4
-    (λ c κs. search needs)
-    returns-5
-    returns-6
-    (λ c κs. search needs)
     (λ c. search needs)
     (λ c. search needs)
     (λ c κs. search needs)
     (λ c. search needs)
     (λ c. search needs)
     (λ c. search needs)
+    (λ c. omega (arith, held (c .before .before .before)))
     (λ c. search needs)
     (λ c. search needs)
     (λ c. search needs)
     (λ c κs. search needs)
     (λ c. search needs)
     (λ c. search needs)
-    (λ c κs. search needs)
+    (λ c κs. let s = held (c .before .before .before .before) in (s .2, s .3))
     (λ c. search needs)
     (λ c. search needs)
     (λ c. search needs)
-    returns-7)
+    returns-4)

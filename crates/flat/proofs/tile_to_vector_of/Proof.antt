@@ -5,21 +5,9 @@ use Rattle.flat.proofs.tile_to_vector_of.Statement.{statement}
 use Rattle.flat.proofs.tile_to_vector_of.Tie as tie
 
 returns : tie.Need-returns
-returns c =
-    let at-direction = c .before .before .before .before in
-    rw (at-direction .before .before .before .of-bytes .ensures, at-direction .of-number .ensures, at-direction .before .wide .ensures)
+returns c = rw (c .before .slice-of .ensures)
 
 pub tile-to-vector-of-spec : {M : Type 1} → statement M
 tile-to-vector-of-spec =
     tie.close
-    (tie.spec
-    (λ c. search needs)
-    (λ c κs. search needs)
-    (λ c. search needs)
-    (λ c κs. search needs)
-    (λ c κs. search needs)
-    (λ c. search needs)
-    (λ c. search needs)
-    (λ c. search needs)
-    (λ c. search needs)
-    returns)
+    (tie.spec (λ c κs. search needs) (λ c. search needs) returns)

@@ -12,7 +12,7 @@ returns : tie.Need-returns
 returns c = unflattens _ _ (sym (c .before .before .before .before .flatten .ensures) ∙ c .before .same .ensures .0 (c .if1 .taken))
 
 returns-2 : tie.Need-returns-2
-returns-2 c = unflattens-none _ (λ e. true≢false (sym (c .before .same .ensures .1 (c .before .before .before .before .flatten .ensures ∙ ap flatOf (c .before .before .before .before .before .operation-of .ensures) ∙ e)) ∙ c .if1 .left))
+returns-2 c = unflattens-none _ (c .before .before .same-arg .given .0) (λ e. true≢false (sym (c .before .same .ensures .1 (c .before .before .before .before .flatten .ensures ∙ ap flatOf (c .before .before .before .before .before .operation-of .ensures) ∙ e)) ∙ c .if1 .left))
 
 pub unflatten-spec : {M : Type 1} → statement M
 unflatten-spec =

@@ -3,12 +3,12 @@
 use Prim.Native.Nat.{_-_, _≤_}
 use mathlib.Core.Path.{_≡_}
 use native.Mathlib.Omega.{arith}
-use Rattle.lent_tiles.proofs.LentLaws.{filled, filled-none, filled-more, filled-all}
+use Rattle.lent_tiles.proofs.LentLaws.{filledTo, filled-none, filled-more, filled-all}
 use Rattle.lent_tiles.proofs.held_in.Statement.{statement}
 use Rattle.lent_tiles.proofs.held_in.Tie as tie
 
 abbrev Inv-loop : tie.InvT-loop
-Inv-loop tiles count held₀ i₀ held i = (i ≤ 16) × (held ≡ filled tiles count i)
+Inv-loop tiles count held₀ i₀ held i = (i ≤ 16) × (held ≡ filledTo tiles count i)
 
 abbrev μ-loop : tie.MeasureT-loop
 μ-loop tiles count held₀ i₀ held i = 16 - i

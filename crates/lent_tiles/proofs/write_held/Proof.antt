@@ -4,8 +4,8 @@ use Prim.Native.Nat.{_+_, _*_, _-_, _≤_}
 use mathlib.Core.Path.{_≡_, refl, _∙_}
 use native.Mathlib.Omega.{arith}
 use lib.ListN.{length, set, length-set}
-use Rattle.tiles.specs.Scatter.{scatter, all}
-use Rattle.tiles.proofs.ScatterLaws.{scatter-none, scatter-end}
+use Rattle.general.specs.Scatter.{scatter, all}
+use Rattle.general.proofs.ScatterLaws.{scatter-none, scatter-end}
 use Rattle.lent_tiles.specs.Lent.{numberIn, heldOut}
 use Rattle.lent_tiles.proofs.LentLaws.{written-more}
 use Rattle.lent_tiles.proofs.write_held.Statement.{statement}

@@ -4,8 +4,8 @@ use borrow.Author.Needs.{needs}
 use mathlib.Core.Path.{refl}
 use Prim.Native.Nat.{_*_}
 use native.Mathlib.Omega.{arith}
-use Rattle.encoding.specs.Flat.{bytesOf}
-use Rattle.tiles.specs.Scatter.{from}
+use Rattle.tiles.specs.Element.{bytesOf}
+use Rattle.general.specs.Scatter.{onwards}
 use Rattle.moves.specs.Column.{strided}
 use Rattle.moves.proofs.BlockLaws.{block-within-as, scatter-as, gather-as}
 use Rattle.moves.proofs.ColumnLaws.{strided-from-as}
@@ -46,7 +46,7 @@ returns c =
     let a = entry .args in
     let run =
     slice-run (a .stride) (bytesOf (a .size)) (a .tile) (a .direction) (a .slice) _ (at-start .slice-start .ensures) (at-arm .enum-told .given .1) in
-    gather-as _ _ (from (at-start .slice-start .result)) _ (a .za .now) _ _ _ (at-copy-vector .copy-vector .ensures) run refl
+    gather-as _ _ (onwards (at-start .slice-start .result)) _ (a .za .now) _ _ _ (at-copy-vector .copy-vector .ensures) run refl
 
 returns-2 : tie.Need-returns-2
 returns-2 c =

@@ -4,8 +4,8 @@ use borrow.Author.Needs.{needs}
 use mathlib.Core.Path.{_≡_, refl}
 use Prim.Native.Nat.{_*_, _/_}
 use native.Mathlib.Omega.{arith}
-use Rattle.encoding.specs.Flat.{bytesOf}
-use Rattle.tiles.specs.Scatter.{from}
+use Rattle.tiles.specs.Element.{bytesOf}
+use Rattle.general.specs.Scatter.{onwards}
 use Rattle.moves.specs.Column.{strided}
 use Rattle.moves.proofs.BlockLaws.{block-within-as, scatter-as, gather-as}
 use Rattle.moves.proofs.ColumnLaws.{strided-from-as}
@@ -53,7 +53,7 @@ returns c =
     let count : a .vector-bytes / 16 * 16 ≡ a .vector-bytes = omega arith in
     let run =
     slice-run (a .stride) (bytesOf (a .size)) (a .tile) (a .direction) (a .slice) _ (at-start .slice-start .ensures) (at-arm .enum-told .given .1) in
-    gather-as _ _ (from (at-start .slice-start .result)) _ (a .za .now) _ _ _ (at-merge-vector .merge-vector .ensures) run count
+    gather-as _ _ (onwards (at-start .slice-start .result)) _ (a .za .now) _ _ _ (at-merge-vector .merge-vector .ensures) run count
 
 returns-2 : tie.Need-returns-2
 returns-2 c =

@@ -4,7 +4,7 @@ use borrow.Author.Needs.{needs}
 use mathlib.Core.Path.{_≡_}
 use Prim.Native.Nat.{_*_, _/_}
 use native.Mathlib.Omega.{arith}
-use Rattle.encoding.specs.Flat.{bytesOf}
+use Rattle.tiles.specs.Element.{bytesOf}
 use Rattle.moves.proofs.BlockLaws.{block-within-as, scatter-as}
 use Rattle.moves.proofs.ColumnLaws.{read-from-as}
 use Rattle.slices.proofs.SliceLaws.{run-within, columned, slice-run, vector-fits, products-small}

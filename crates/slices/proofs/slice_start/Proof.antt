@@ -24,9 +24,6 @@ mul-result-2 c =
     let entry = at-bytes .before in
     rw (at-bytes .bytes .ensures .0) (omega (arith, products-small _ _ _ _ _ _ (entry .pre) .0))
 
-mul-result-3 : tie.Need-mul-result-3
-mul-result-3 c = omega (arith, products-small _ _ _ _ _ _ (c .before .before .before .pre) .1)
-
 mul-result-4 : tie.Need-mul-result-4
 mul-result-4 c =
     let at-bytes = c .before .before in
@@ -56,7 +53,7 @@ slice-start-spec =
     add-result
     mul-result-2
     (λ c. search needs)
-    mul-result-3
+    (λ c. omega (arith, products-small _ _ _ _ _ _ (c .before .before .before .pre) .1))
     mul-result-4
     add-result-2
     returns

@@ -3,8 +3,8 @@
 use borrow.Author.Needs.{needs}
 use Prim.Native.Nat.{ℕ, _+_, _%_, _^_}
 use mathlib.Core.Path.{ap, _∙_}
-use Rattle.encoding.specs.Flat.{bytesOf}
-use Rattle.execution.specs.Access.{baseOf, addressAt}
+use Rattle.tiles.specs.Element.{bytesOf}
+use Rattle.semantics.specs.Access.{baseOf, addressAt}
 use Rattle.access.proofs.AccessLaws.{address-from}
 use Rattle.access.proofs.address.first_address.Statement.{statement}
 use Rattle.access.proofs.address.first_address.Tie as tie
@@ -12,12 +12,12 @@ use Rattle.access.proofs.address.first_address.Tie as tie
 returns : tie.Need-returns
 returns c k =
     let at-offset = c .before .before in
-    let a = at-offset .before .before .before .before .args in
+    let a = at-offset .before .before .before .before .before .args in
     let o = a .operation in
     let base = baseOf (a .x .now) (o .rn) in
-    address-from (o .size) base (at-offset .offset-or-zero .result) _ k
+    address-from (o .slice .size) base (at-offset .offset-or-zero .result) _ k
     (c .wrapping-add-u64 .ensures ∙ ap (λ (d : ℕ). (base + d) % 2 ^ 64) (c .before .scaled .ensures))
-    ∙ ap (λ (f : ℕ). addressAt base f (bytesOf (o .size)) k) (at-offset .offset-or-zero .ensures)
+    ∙ ap (λ (f : ℕ). addressAt base f (bytesOf (o .slice .size)) k) (at-offset .offset-or-zero .ensures)
 
 pub first-address-spec : {M : Type 1} → statement M
 first-address-spec =

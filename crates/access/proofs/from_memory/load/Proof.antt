@@ -2,58 +2,55 @@
 -- Assumes nothing.
 use borrow.Author.Needs.{needs}
 use Prim.Native.Nat.{ℕ, _+_, _-_, _/_, _%_, _^_}
-use mathlib.Core.Path.{refl, sym, ap}
+use mathlib.Core.Path.{refl, ap}
 use native.Mathlib.Omega.{arith}
 use lib.ListN.{length}
-use Rattle.encoding.specs.Flat.{bytesOf}
+use Rattle.tiles.specs.Element.{bytesOf}
 use Rattle.slices.specs.Slice.{Placed}
 use Rattle.slices.proofs.SliceLaws.{placed}
 use Rattle.access.specs.Promise.{Reaches}
 use Rattle.access.specs.declared.reach.Reach.the-variants.{Whole, Active, Refused}
-use Rattle.access.proofs.AccessLaws.{Prepared, prepared, access-refuses, access-accesses, done-inside, vector-byte, load-writes}
+use Rattle.access.proofs.AccessLaws.{Prepared, prepared, done-inside, vector-byte, load-performs}
 use Rattle.access.proofs.from_memory.load.Statement.{statement}
 use Rattle.access.proofs.from_memory.load.Tie as tie
 
-ready : (entry : tie.Start) → let a = entry .args in Prepared (a .settings .«vector_bytes») (bytesOf (a .operation .size)) (a .operation .pg) (length (a .p .now))
-ready entry = prepared (entry .args .settings) _ _ _ (entry .args .operation) (entry .pre .0) _ refl
+ready : (entry : tie.Start) → let a = entry .args in Prepared (a .settings .«vector_bytes») (bytesOf (a .operation .slice .size)) (a .operation .pg) (length (a .p .now))
+ready entry = prepared (entry .args .settings) (entry .args .operation) _ _ _ _ _ (entry .pre) _ refl
 
 -- where the slice lies
-place : (c : tie.After-slice-number) → let a = c .before .before .before .before .before .before .before .args in Placed (a .settings .«vector_bytes») (a .settings .«vector_bytes») (bytesOf (a .operation .size)) (a .settings .«vector_bytes» / bytesOf (a .operation .size)) (a .operation .zat) (c .slice-number .result)
+place : (c : tie.After-slice-number) → let a = c .before .before .before .before .before .before .before .before .args in Placed (a .settings .«vector_bytes») (a .settings .«vector_bytes») (bytesOf (a .operation .slice .size)) (a .settings .«vector_bytes» / bytesOf (a .operation .slice .size)) (a .operation .slice .tile) (c .slice-number .result)
 place c =
-    let entry = c .before .before .before .before .before .before .before in
+    let entry = c .before .before .before .before .before .before .before .before in
     let a = entry .args in
-    placed (a .operation .size) (a .settings .«vector_bytes») _ _ (entry .pre .0 .vector) (entry .pre .0 .range .tile) (c .slice-number .ensures .1)
+    placed (a .operation .slice .size) (a .settings .«vector_bytes») _ _ (entry .pre .0 .vector) (entry .pre .1 .slice .tile) (c .slice-number .ensures .1)
 
 -- what the arms know
-whole : (c : tie.After-at) → let a = c .before .before .before .before .before .before .before .before .before .before .args in Reaches (a .settings) (a .x .now) (a .p .now) (length (a .memory .now)) (a .operation) (Whole (c .at .given .0 .0))
+whole : (c : tie.After-at) → let a = c .before .before .before .before .before .before .before .before .before .before .before .args in Reaches (a .settings) (a .x .now) (a .p .now) (length (a .memory .now)) (a .operation) (Whole (c .at .given .0 .0))
 whole c = rw (c .at .given .1) at (c .before .before .find-reach .ensures)
 
-active-only : (c : tie.After-start) → let a = c .before .before .before .before .before .before .before .before .before .before .args in Reaches (a .settings) (a .x .now) (a .p .now) (length (a .memory .now)) (a .operation) (Active (c .start .given .0 .0))
+active-only : (c : tie.After-start) → let a = c .before .before .before .before .before .before .before .before .before .before .before .args in Reaches (a .settings) (a .x .now) (a .p .now) (length (a .memory .now)) (a .operation) (Active (c .start .given .0 .0))
 active-only c = rw (c .start .given .1) at (c .before .before .find-reach .ensures)
 
-refused : (c : tie.After-answer) → let a = c .before .before .before .before .before .before .before .before .before .before .args in Reaches (a .settings) (a .x .now) (a .p .now) (length (a .memory .now)) (a .operation) (Refused (c .answer .given .0 .0))
-refused c = rw (c .answer .given .1) at (c .before .before .find-reach .ensures)
-
-mul-pbase : tie.Need-mul-pbase
-mul-pbase c = omega (arith, ready (c .before .before .before .before .before .before))
+refused : (c : tie.After-refusal) → let a = c .before .before .before .before .before .before .before .before .before .before .before .args in Reaches (a .settings) (a .x .now) (a .p .now) (length (a .memory .now)) (a .operation) (Refused (c .refusal .given .0 .0))
+refused c = rw (c .refusal .given .1) at (c .before .before .find-reach .ensures)
 
 slice-number-requires : tie.Need-slice-number-requires
 slice-number-requires c κs =
-    let h = c .before .before .before .before .before .before .pre .0 in
-    (omega (arith, h .x, h .range .index), h .range .offset, h .vector)
+    let h = c .before .before .before .before .before .before .before .pre in
+    (omega (arith, h .0 .x, h .1 .slice .index), h .1 .slice .offset, h .0 .vector)
 
 read-whole-requires : tie.Need-read-whole-requires
 read-whole-requires c κs =
     let at-at = c .before .before in
-    let entry = at-at .before .before .before .before .before .before .before .before .before .before in
+    let entry = at-at .before .before .before .before .before .before .before .before .before .before .before in
     let r = ready entry in
-    (place (at-at .before .before .before), (omega (arith, r .room, r .whole .eights), entry .pre .1, whole at-at .1))
+    (place (at-at .before .before .before), (omega (arith, r .room, r .whole .eights), entry .pre .0 .za, whole at-at .1))
 
 read-active-requires : tie.Need-read-active-requires
 read-active-requires c κs =
     let at-bytes = c .before in
     let at-start = at-bytes .before .before in
-    let entry = at-start .before .before .before .before .before .before .before .before .before .before in
+    let entry = at-start .before .before .before .before .before .before .before .before .before .before .before in
     let a = entry .args in
     let r = active-only at-start in
     let p = ready entry in
@@ -63,37 +60,33 @@ read-active-requires c κs =
 copy-to-slice-requires : tie.Need-copy-to-slice-requires
 copy-to-slice-requires c κs =
     let at-start = c .before .before .before .before .before .before .before in
-    let entry = at-start .before .before .before .before .before .before .before .before .before .before in
-    (place (at-start .before .before .before), omega (arith, entry .pre .1, ready entry .whole .longest))
+    let entry = at-start .before .before .before .before .before .before .before .before .before .before .before in
+    (place (at-start .before .before .before), omega (arith, entry .pre .0 .za, ready entry .whole .longest))
 
 returns : tie.Need-returns
-returns c =
+returns c z =
     let at-read = c .before .before in
     let at-at = at-read .before .before .before in
     let at-slice = at-at .before .before .before in
-    let a = at-at .before .before .before .before .before .before .before .before .before .before .args in
+    let a = at-at .before .before .before .before .before .before .before .before .before .before .before .args in
     let r = whole at-at in
-    access-accesses (a .settings) (a .x .now) (a .p .now) (length (a .memory .now)) (a .operation) _ _ _ (sym (r .0))
-    (load-writes (a .settings) (a .x .now) (a .p .now) (length (a .memory .now)) (a .operation) (λ k. at-at .at .given .0 .0 + k) (λ k w. rw (r .2 k w) (omega arith)) (at-slice .slice-number .result) (at-slice .slice-number .ensures .0) (a .za .now) (a .memory .now) _ (λ k w. refl) (at-read .read-whole .ensures))
+    load-performs (a .settings) (a .x .now) z (a .p .now) (a .za .now) (a .memory .now) (a .operation) (λ k. at-at .at .given .0 .0 + k) (λ k w. rw (r .2 k w) (omega arith)) (at-slice .slice-number .result) (at-slice .slice-number .ensures .0) (r .0) _ (λ k w. refl) (at-read .read-whole .ensures)
 
 returns-2 : tie.Need-returns-2
-returns-2 c =
+returns-2 c z =
     let at-copy = c .before .before in
     let at-read = at-copy .before .before .before .before in
     let at-bytes = at-read .before .before in
     let at-start = at-bytes .before .before in
     let at-slice = at-start .before .before .before in
-    let entry = at-start .before .before .before .before .before .before .before .before .before .before in
+    let entry = at-start .before .before .before .before .before .before .before .before .before .before .before in
     let a = entry .args in
     let r = active-only at-start in
     let read = vector-byte _ _ _ 256 (rw (at-bytes .bytes .ensures .0) at (at-read .read-active .ensures)) (ready entry .whole .longest) in
-    access-accesses (a .settings) (a .x .now) (a .p .now) (length (a .memory .now)) (a .operation) _ _ _ (sym (r .0))
-    (load-writes (a .settings) (a .x .now) (a .p .now) (length (a .memory .now)) (a .operation) (λ k. (at-start .start .given .0 .0 + k) % 2 ^ 64 - a .settings .«memory_address») (λ k _. ap (λ (i : ℕ). i - a .settings .«memory_address») (r .1 k)) (at-slice .slice-number .result) (at-slice .slice-number .ensures .0) (a .za .now) (a .memory .now) _ read (at-copy .copy-to-slice .ensures))
+    load-performs (a .settings) (a .x .now) z (a .p .now) (a .za .now) (a .memory .now) (a .operation) (λ k. (at-start .start .given .0 .0 + k) % 2 ^ 64 - a .settings .«memory_address») (λ k _. ap (λ (i : ℕ). i - a .settings .«memory_address») (r .1 k)) (at-slice .slice-number .result) (at-slice .slice-number .ensures .0) (r .0) _ read (at-copy .copy-to-slice .ensures)
 
 returns-3 : tie.Need-returns-3
-returns-3 c =
-    let a = c .before .before .before .before .before .before .before .before .before .before .before .args in
-    access-refuses (a .settings) (a .x .now) (a .p .now) (length (a .memory .now)) (a .operation) _ _ _ (refused (c .before) .0) (refused (c .before) .1)
+returns-3 c z = record { answer = refused (c .before); state = refl }
 
 pub load-spec : {M : Type 1} → statement M
 load-spec =
@@ -101,7 +94,7 @@ load-spec =
     (tie.spec
     (λ c. search needs)
     (λ c. search needs)
-    mul-pbase
+    (λ c. omega (arith, ready (c .before .before .before .before .before .before .before)))
     slice-number-requires
     (λ c κs. search needs)
     (λ c. search needs)

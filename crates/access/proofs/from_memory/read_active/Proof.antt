@@ -6,17 +6,17 @@ use mathlib.Core.Logic.{⊎-elim}
 use Prim.Native.Nat.{ℕ, _+_, _-_, _%_, _^_, _≤_, _<_}
 use native.Mathlib.Omega.{arith}
 use lib.ListN.{length, getD}
-use Rattle.tiles.specs.Scatter.{from}
+use Rattle.general.specs.Scatter.{onwards}
 use Rattle.tiles.specs.Predicate.{active}
-use Rattle.tiles.proofs.ScatterLaws.{scatter-none, scatter-end}
-use Rattle.moves.proofs.BlockLaws.{Written}
+use Rattle.general.proofs.ScatterLaws.{scatter-none, scatter-end}
+use Rattle.moves.proofs.BlockLaws.{WrittenTo}
 use Rattle.access.proofs.AccessLaws.{in-memory, written-active, written-inactive}
 use Rattle.access.proofs.from_memory.read_active.Statement.{statement}
 use Rattle.access.proofs.from_memory.read_active.Tie as tie
 
 abbrev Inv-loop : tie.InvT-loop
 Inv-loop vector₀ memory memory-address start p pbase m n k₀ vector k =
-    (k ≤ n) × Written (from 0) (active p pbase m) (λ (k : ℕ). getD memory ((start + k) % 2 ^ 64 - memory-address) 0) vector₀ k vector
+    (k ≤ n) × WrittenTo (onwards 0) (active p pbase m) (λ (k : ℕ). getD memory ((start + k) % 2 ^ 64 - memory-address) 0) vector₀ k vector
 
 abbrev μ-loop : tie.MeasureT-loop
 μ-loop vector₀ memory memory-address start p pbase m n k₀ vector k = n - k
@@ -33,18 +33,6 @@ inside c =
 loop-holds : tie.Need-loop-holds Inv-loop μ-loop
 loop-holds c = (omega arith, (refl, scatter-none _ _ _))
 
-is-active-requires : tie.Need-is-active-requires Inv-loop μ-loop
-is-active-requires c κs = omega arith
-
-sub-at : tie.Need-sub-at Inv-loop μ-loop
-sub-at c = omega (arith, inside c)
-
-shared-slice-read-vector : tie.Need-shared-slice-read-vector Inv-loop μ-loop
-shared-slice-read-vector c = omega (arith, inside (c .before))
-
-slice-write-vector : tie.Need-slice-write-vector Inv-loop μ-loop
-slice-write-vector c = omega arith
-
 loop-again : tie.Need-loop-again Inv-loop μ-loop
 loop-again c =
     let l = c .before .before .before .loop in
@@ -54,9 +42,6 @@ loop-again c =
     (λ w. (omega arith, written-active _ _ _ _ (l .k) (l .k) _ (l .inv .1 .1) (sym on ∙ w .0 .taken) (omega arith) (ap (λ (x : ℕ). getD (a .memory .now) (x - a .memory-address) 0) (w .1 .ensures)) (w .3)))
     (λ w. (omega arith, written-inactive _ _ _ _ (l .k) (l .inv .1 .1) (sym on ∙ w .0 .left) (w .1)))
     (c .if1 .came)
-
-same-length : tie.Need-same-length Inv-loop μ-loop
-same-length c = omega arith
 
 returns : tie.Need-returns Inv-loop μ-loop
 returns c =
@@ -70,13 +55,13 @@ read-active-spec =
     Inv-loop
     μ-loop
     loop-holds
-    is-active-requires
+    (λ c κs. omega arith)
     (λ c κs. search needs)
-    sub-at
-    shared-slice-read-vector
-    slice-write-vector
+    (λ c. omega (arith, inside c))
+    (λ c. omega (arith, inside (c .before)))
+    (λ c. omega arith)
     (λ c. search needs)
     (λ c. search needs)
     loop-again
-    same-length
+    (λ c. omega arith)
     returns)

@@ -3,11 +3,10 @@
 use borrow.Author.Needs.{needs}
 use Prim.Native.Nat.{_+_, _*_, _/_}
 use mathlib.Core.Path.{_≡_, refl, sym, ap, _∙_}
-use mathlib.Core.Bool.{Bool}
+use mathlib.Core.Bool.{Bool, cond}
 use native.Mathlib.Omega.{arith}
 use lib.ListN.{getD}
-use Rattle.tiles.specs.Scatter.{pick}
-use Rattle.tiles.proofs.ScatterLaws.{scatter-agree}
+use Rattle.general.proofs.ScatterLaws.{scatter-agree}
 use Rattle.access.proofs.AccessLaws.{full-active, vector-byte}
 use Rattle.access.proofs.from_memory.read_whole.Statement.{statement}
 use Rattle.access.proofs.from_memory.read_whole.Tie as tie
@@ -29,7 +28,7 @@ returns c =
     let a = entry .args in
     let full = sym (at-then .before .is-full .ensures) ∙ at-then .if1 .taken in
     let on = full-active (a .p .now) (a .pbase) (a .size) (a .vector-bytes) (omega (arith, entry .pre .0 .sixteens)) full in
-    at-copy .copy-to-slice .ensures ∙ scatter-agree _ _ _ _ _ _ _ (λ k w. (refl, ap (λ (t : Bool). pick t (getD (a .memory .now) (a .at + k) 0) 0) (sym (on k w))))
+    at-copy .copy-to-slice .ensures ∙ scatter-agree _ _ _ _ _ _ _ (λ k w. (refl, ap (λ (t : Bool). cond t (getD (a .memory .now) (a .at + k) 0) 0) (sym (on k w))))
 
 returns-2 : tie.Need-returns-2
 returns-2 c =

@@ -6,8 +6,8 @@ use mathlib.Core.Option.{none}
 use Prim.Native.Nat.{_-_, _≤_}
 use native.Mathlib.Omega.{arith}
 use Rattle.tiles.specs.Predicate.{active}
-use Rattle.tiles.specs.Least.{least, isSome}
-use Rattle.tiles.proofs.LeastLaws.{least-zero, least-more, least-end, least-found}
+use Rattle.general.specs.Least.{least, isSome}
+use Rattle.general.proofs.LeastLaws.{least-zero, least-more, least-end, least-found}
 use Rattle.access.proofs.predicate.any_active.Statement.{statement}
 use Rattle.access.proofs.predicate.any_active.Tie as tie
 
@@ -19,9 +19,6 @@ abbrev μ-loop : tie.MeasureT-loop
 
 loop-holds : tie.Need-loop-holds Inv-loop μ-loop
 loop-holds c = (omega arith, least-zero _)
-
-is-active-requires : tie.Need-is-active-requires Inv-loop μ-loop
-is-active-requires c κs = omega arith
 
 returns : tie.Need-returns Inv-loop μ-loop
 returns c =
@@ -45,7 +42,7 @@ any-active-spec =
     Inv-loop
     μ-loop
     loop-holds
-    is-active-requires
+    (λ c κs. omega arith)
     returns
     (λ c. search needs)
     (λ c. search needs)

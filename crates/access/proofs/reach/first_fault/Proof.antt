@@ -7,8 +7,8 @@ use mathlib.Core.Bool.{true, false}
 use mathlib.Core.Option.{none}
 use Prim.Native.Nat.{_-_, _≤_}
 use native.Mathlib.Omega.{arith}
-use Rattle.tiles.specs.Least.{least}
-use Rattle.tiles.proofs.LeastLaws.{least-zero, least-more, least-end, least-found}
+use Rattle.general.specs.Least.{least}
+use Rattle.general.proofs.LeastLaws.{least-zero, least-more, least-end, least-found}
 use Rattle.access.proofs.AccessLaws.{faultAt, inactive-passes, active-tested}
 use Rattle.access.proofs.reach.first_fault.Statement.{statement}
 use Rattle.access.proofs.reach.first_fault.Tie as tie
@@ -21,9 +21,6 @@ abbrev μ-loop : tie.MeasureT-loop
 
 loop-holds : tie.Need-loop-holds Inv-loop μ-loop
 loop-holds c = (omega arith, least-zero _)
-
-is-active-requires : tie.Need-is-active-requires Inv-loop μ-loop
-is-active-requires c κs = omega arith
 
 returns : tie.Need-returns Inv-loop μ-loop
 returns c =
@@ -59,7 +56,7 @@ first-fault-spec =
     Inv-loop
     μ-loop
     loop-holds
-    is-active-requires
+    (λ c κs. omega arith)
     (λ c κs. search needs)
     (λ c κs. search needs)
     returns

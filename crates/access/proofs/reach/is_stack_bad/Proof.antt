@@ -7,7 +7,7 @@ use mathlib.Core.Path.{_∙_}
 use mathlib.Core.Bool.{_&&_}
 use lib.Dec.{eqb}
 use Rattle.tiles.specs.Predicate.{active}
-use Rattle.tiles.specs.Least.{least, isSome}
+use Rattle.general.specs.Least.{least, isSome}
 use native.Mathlib.Omega.{arith}
 use Rattle.access.proofs.AccessLaws.{and-false, and-true}
 use Rattle.access.proofs.reach.is_stack_bad.Statement.{statement}

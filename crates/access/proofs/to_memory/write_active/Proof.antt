@@ -8,15 +8,15 @@ use native.Mathlib.Omega.{arith}
 use lib.ListN.{length, getD}
 use Rattle.tiles.specs.Predicate.{active}
 use Rattle.tiles.specs.Tile.{sliceAt}
-use Rattle.tiles.proofs.ScatterLaws.{scatter-none, scatter-end}
-use Rattle.moves.proofs.BlockLaws.{Written}
+use Rattle.general.proofs.ScatterLaws.{scatter-none, scatter-end}
+use Rattle.moves.proofs.BlockLaws.{WrittenTo}
 use Rattle.access.proofs.AccessLaws.{in-memory, written-active, written-inactive}
 use Rattle.access.proofs.to_memory.write_active.Statement.{statement}
 use Rattle.access.proofs.to_memory.write_active.Tie as tie
 
 abbrev Inv-loop : tie.InvT-loop
 Inv-loop memory₀ memory-address start p pbase za vector-bytes m tile direction slice k₀ memory k =
-    (k ≤ vector-bytes) × Written (λ (k : ℕ). (start + k) % 2 ^ 64 - memory-address) (active p pbase m) (λ (k : ℕ). getD za (sliceAt vector-bytes m tile direction slice k) 0) memory₀ k memory
+    (k ≤ vector-bytes) × WrittenTo (λ (k : ℕ). (start + k) % 2 ^ 64 - memory-address) (active p pbase m) (λ (k : ℕ). getD za (sliceAt vector-bytes m tile direction slice k) 0) memory₀ k memory
 
 abbrev μ-loop : tie.MeasureT-loop
 μ-loop memory₀ memory-address start p pbase za vector-bytes m tile direction slice k₀ memory k = vector-bytes - k
@@ -33,21 +33,6 @@ inside c =
 loop-holds : tie.Need-loop-holds Inv-loop μ-loop
 loop-holds c = (omega arith, (refl, scatter-none _ _ _))
 
-is-active-requires : tie.Need-is-active-requires Inv-loop μ-loop
-is-active-requires c κs = omega arith
-
-sub-at : tie.Need-sub-at Inv-loop μ-loop
-sub-at c = omega (arith, inside c)
-
-slice-byte-requires : tie.Need-slice-byte-requires Inv-loop μ-loop
-slice-byte-requires c κs = omega arith
-
-shared-slice-read-memory : tie.Need-shared-slice-read-memory Inv-loop μ-loop
-shared-slice-read-memory c = omega arith
-
-slice-write-memory : tie.Need-slice-write-memory Inv-loop μ-loop
-slice-write-memory c = omega (arith, inside (c .before .before))
-
 loop-again : tie.Need-loop-again Inv-loop μ-loop
 loop-again c =
     let l = c .before .before .before .loop in
@@ -57,9 +42,6 @@ loop-again c =
     (λ w. (omega arith, written-active _ _ _ _ (l .k) _ _ (l .inv .1 .1) (sym on ∙ w .0 .taken) (ap (λ (x : ℕ). x - a .memory-address) (w .1 .ensures)) (ap (λ (x : ℕ). getD (a .za .now) x 0) (w .2 .ensures .0)) (w .4)))
     (λ w. (omega arith, written-inactive _ _ _ _ (l .k) (l .inv .1 .1) (sym on ∙ w .0 .left) (w .1)))
     (c .if1 .came)
-
-same-length : tie.Need-same-length Inv-loop μ-loop
-same-length c = omega arith
 
 returns : tie.Need-returns Inv-loop μ-loop
 returns c =
@@ -73,14 +55,14 @@ write-active-spec =
     Inv-loop
     μ-loop
     loop-holds
-    is-active-requires
+    (λ c κs. omega arith)
     (λ c κs. search needs)
-    sub-at
-    slice-byte-requires
-    shared-slice-read-memory
-    slice-write-memory
+    (λ c. omega (arith, inside c))
+    (λ c κs. omega arith)
+    (λ c. omega arith)
+    (λ c. omega (arith, inside (c .before .before)))
     (λ c. search needs)
     (λ c. search needs)
     loop-again
-    same-length
+    (λ c. omega arith)
     returns)

@@ -3,7 +3,7 @@
 use borrow.Author.Needs.{needs}
 use mathlib.Core.Path.{sym, _∙_}
 use native.Mathlib.Omega.{arith}
-use Rattle.tiles.proofs.ScatterLaws.{scatter-all}
+use Rattle.general.proofs.ScatterLaws.{scatter-all}
 use Rattle.access.proofs.AccessLaws.{full-active}
 use Rattle.access.proofs.to_memory.write_whole.Statement.{statement}
 use Rattle.access.proofs.to_memory.write_whole.Tie as tie

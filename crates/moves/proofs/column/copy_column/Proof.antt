@@ -5,17 +5,17 @@ use mathlib.Core.Path.{refl, ap}
 use Prim.Native.Nat.{ℕ, _*_, _-_, _≤_}
 use native.Mathlib.Omega.{arith}
 use lib.ListN.{getD}
-use Rattle.encoding.specs.Flat.{bytesOf}
-use Rattle.tiles.specs.Scatter.{all}
+use Rattle.tiles.specs.Element.{bytesOf}
+use Rattle.general.specs.Scatter.{all}
 use Rattle.moves.specs.Column.{strided}
-use Rattle.moves.proofs.BlockLaws.{Written, written-none, written-block, written-end}
+use Rattle.moves.proofs.BlockLaws.{WrittenTo, written-none, written-block, written-end}
 use Rattle.moves.proofs.ColumnLaws.{strided-element}
 use Rattle.moves.proofs.column.copy_column.Statement.{statement}
 use Rattle.moves.proofs.column.copy_column.Tie as tie
 
 abbrev Inv-loop : tie.InvT-loop
 Inv-loop dst₀ base step src sbase sstep size n e₀ dst e =
-    (e ≤ n) × Written (strided base step (bytesOf size)) all (λ (k : ℕ). getD src (strided sbase sstep (bytesOf size) k) 0) dst₀ (e * bytesOf size) dst
+    (e ≤ n) × WrittenTo (strided base step (bytesOf size)) all (λ (k : ℕ). getD src (strided sbase sstep (bytesOf size) k) 0) dst₀ (e * bytesOf size) dst
 
 abbrev μ-loop : tie.MeasureT-loop
 μ-loop dst₀ base step src sbase sstep size n e₀ dst e = n - e

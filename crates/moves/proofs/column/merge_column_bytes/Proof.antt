@@ -9,14 +9,14 @@ use lib.Dec.{eqb}
 use lib.ListN.{getD}
 use Rattle.tiles.specs.Predicate.{active}
 use Rattle.moves.specs.Column.{strided}
-use Rattle.moves.proofs.BlockLaws.{Written, written-none, written-block, written-end}
+use Rattle.moves.proofs.BlockLaws.{WrittenTo, written-none, written-block, written-end}
 use Rattle.moves.proofs.ColumnLaws.{strided-eight, active-eight}
 use Rattle.moves.proofs.column.merge_column_bytes.Statement.{statement}
 use Rattle.moves.proofs.column.merge_column_bytes.Tie as tie
 
 abbrev Inv-loop : tie.InvT-loop
 Inv-loop dst₀ base step src sbase sstep p pbase n g₀ dst g =
-    (g ≤ n) × Written (strided base step 1) (active p pbase 1) (λ (k : ℕ). getD src (strided sbase sstep 1 k) 0) dst₀ (g * 8) dst
+    (g ≤ n) × WrittenTo (strided base step 1) (active p pbase 1) (λ (k : ℕ). getD src (strided sbase sstep 1 k) 0) dst₀ (g * 8) dst
 
 abbrev μ-loop : tie.MeasureT-loop
 μ-loop dst₀ base step src sbase sstep p pbase n g₀ dst g = n - g

@@ -6,33 +6,21 @@ use Prim.Native.Nat.{ℕ, _+_, _*_, _-_, _/_, _%_, _^_, _≤_}
 use native.Mathlib.Omega.{arith}
 use lib.Dec.{eqb}
 use lib.ListN.{getD, length-set}
-use Rattle.tiles.proofs.ScatterLaws.{scatter-none, scatter-end}
-use Rattle.moves.proofs.BlockLaws.{Written}
+use Rattle.general.proofs.ScatterLaws.{scatter-none, scatter-end}
+use Rattle.moves.proofs.BlockLaws.{WrittenTo}
 use Rattle.moves.proofs.PartLaws.{scatter-more-picked}
 use Rattle.moves.proofs.column.merge_eight.Statement.{statement}
 use Rattle.moves.proofs.column.merge_eight.Tie as tie
 
 abbrev Inv-loop : tie.InvT-loop
 Inv-loop dst₀ base step src sbase sstep b i₀ dst i =
-    (i ≤ 8) × Written (λ (k : ℕ). base + k * step) (λ (k : ℕ). eqb (b / 2 ^ k % 2) 1) (λ (k : ℕ). getD src (sbase + k * sstep) 0) dst₀ i dst
+    (i ≤ 8) × WrittenTo (λ (k : ℕ). base + k * step) (λ (k : ℕ). eqb (b / 2 ^ k % 2) 1) (λ (k : ℕ). getD src (sbase + k * sstep) 0) dst₀ i dst
 
 abbrev μ-loop : tie.MeasureT-loop
 μ-loop dst₀ base step src sbase sstep b i₀ dst i = 8 - i
 
 loop-holds : tie.Need-loop-holds Inv-loop μ-loop
 loop-holds c = (omega arith, (refl, scatter-none _ _ _))
-
-mul-at : tie.Need-mul-at Inv-loop μ-loop
-mul-at c = omega (arith, c .before .before .before .before .pre .1 _ (c .loop-test .taken))
-
-add-at : tie.Need-add-at Inv-loop μ-loop
-add-at c = omega (arith, c .before .before .before .before .pre .1 _ (c .loop-test .taken))
-
-mul-choose : tie.Need-mul-choose Inv-loop μ-loop
-mul-choose c = omega (arith, c .before .before .before .before .pre .0 _ (c .loop-test .taken))
-
-add-choose : tie.Need-add-choose Inv-loop μ-loop
-add-choose c = omega (arith, c .before .before .before .before .pre .0 _ (c .loop-test .taken))
 
 shared-slice-read-choose : tie.Need-shared-slice-read-choose Inv-loop μ-loop
 shared-slice-read-choose c =
@@ -69,12 +57,12 @@ merge-eight-spec =
     Inv-loop
     μ-loop
     loop-holds
-    mul-at
-    add-at
+    (λ c. omega (arith, c .before .before .before .before .pre .1 _ (c .loop-test .taken)))
+    (λ c. omega (arith, c .before .before .before .before .pre .1 _ (c .loop-test .taken)))
     (λ c. search needs)
     (λ c. search needs)
-    mul-choose
-    add-choose
+    (λ c. omega (arith, c .before .before .before .before .pre .0 _ (c .loop-test .taken)))
+    (λ c. omega (arith, c .before .before .before .before .pre .0 _ (c .loop-test .taken)))
     shared-slice-read-choose
     slice-read-choose
     (λ c κs. search needs)

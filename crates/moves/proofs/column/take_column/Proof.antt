@@ -5,29 +5,23 @@ use mathlib.Core.Path.{refl}
 use Prim.Native.Nat.{ℕ, _+_, _*_, _-_, _≤_}
 use native.Mathlib.Omega.{arith}
 use lib.ListN.{getD}
-use Rattle.encoding.specs.Flat.{bytesOf}
-use Rattle.tiles.specs.Scatter.{all, zeros, from}
+use Rattle.tiles.specs.Element.{bytesOf}
+use Rattle.general.specs.Scatter.{all, zeros, onwards}
 use Rattle.moves.specs.Column.{strided}
-use Rattle.moves.proofs.BlockLaws.{Written, block-within-as, from-block-as, written-none, written-block, written-end}
+use Rattle.moves.proofs.BlockLaws.{WrittenTo, block-within-as, from-block-as, written-none, written-block, written-end}
 use Rattle.moves.proofs.ColumnLaws.{bytesOf-some, strided-element, cleared-later}
 use Rattle.moves.proofs.column.take_column.Statement.{statement}
 use Rattle.moves.proofs.column.take_column.Tie as tie
 
 abbrev Inv-loop : tie.InvT-loop
 Inv-loop z₀ zbase za₀ base step size n m e₀ z za e =
-    (e ≤ n) × Written (from zbase) all (λ (k : ℕ). getD za₀ (strided base step (bytesOf size) k) 0) z₀ (e * bytesOf size) z × Written (strided base step (bytesOf size)) all zeros za₀ (e * bytesOf size) za
+    (e ≤ n) × WrittenTo (onwards zbase) all (λ (k : ℕ). getD za₀ (strided base step (bytesOf size) k) 0) z₀ (e * bytesOf size) z × WrittenTo (strided base step (bytesOf size)) all zeros za₀ (e * bytesOf size) za
 
 abbrev μ-loop : tie.MeasureT-loop
 μ-loop z₀ zbase za₀ base step size n m e₀ z za e = n - e
 
 loop-holds : tie.Need-loop-holds Inv-loop μ-loop
 loop-holds c = (omega arith, written-none _ _ _ _ _, written-none _ _ _ _ _)
-
-mul-at : tie.Need-mul-at Inv-loop μ-loop
-mul-at c = omega (arith, c .before .before .before .before .before .pre .1 _ (c .loop-test .taken))
-
-add-at : tie.Need-add-at Inv-loop μ-loop
-add-at c = omega (arith, c .before .before .before .before .before .pre .1 _ (c .loop-test .taken))
 
 mul-copy-element : tie.Need-mul-copy-element Inv-loop μ-loop
 mul-copy-element c =
@@ -91,8 +85,8 @@ take-column-spec =
     (λ c κs. search needs)
     (λ c. search needs)
     loop-holds
-    mul-at
-    add-at
+    (λ c. omega (arith, c .before .before .before .before .before .pre .1 _ (c .loop-test .taken)))
+    (λ c. omega (arith, c .before .before .before .before .before .pre .1 _ (c .loop-test .taken)))
     mul-copy-element
     add-copy-element
     copy-element-requires

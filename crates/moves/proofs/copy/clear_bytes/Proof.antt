@@ -5,14 +5,14 @@ use mathlib.Core.Path.{refl}
 use Prim.Native.Nat.{_-_, _≤_}
 use native.Mathlib.Omega.{arith}
 use lib.ListN.{length-set}
-use Rattle.tiles.specs.Scatter.{all, zeros, from}
-use Rattle.tiles.proofs.ScatterLaws.{scatter-none, scatter-more, scatter-end}
-use Rattle.moves.proofs.BlockLaws.{Written}
+use Rattle.general.specs.Scatter.{all, zeros, onwards}
+use Rattle.general.proofs.ScatterLaws.{scatter-none, scatter-more, scatter-end}
+use Rattle.moves.proofs.BlockLaws.{WrittenTo}
 use Rattle.moves.proofs.copy.clear_bytes.Statement.{statement}
 use Rattle.moves.proofs.copy.clear_bytes.Tie as tie
 
 abbrev Inv-loop : tie.InvT-loop
-Inv-loop dst₀ at n i₀ dst i = (i ≤ n) × Written (from at) all zeros dst₀ i dst
+Inv-loop dst₀ at n i₀ dst i = (i ≤ n) × WrittenTo (onwards at) all zeros dst₀ i dst
 
 abbrev μ-loop : tie.MeasureT-loop
 μ-loop dst₀ at n i₀ dst i = n - i

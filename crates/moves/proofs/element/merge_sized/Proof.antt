@@ -8,14 +8,14 @@ use lib.ListN.{getD}
 use Rattle.tiles.specs.Predicate.{active}
 use Rattle.tiles.proofs.SliceLaws.{active-element}
 use Rattle.moves.specs.Column.{strided}
-use Rattle.moves.proofs.BlockLaws.{Written, block-within, written-none, written-block, written-end}
+use Rattle.moves.proofs.BlockLaws.{WrittenTo, block-within, written-none, written-block, written-end}
 use Rattle.moves.proofs.ColumnLaws.{strided-element}
 use Rattle.moves.proofs.element.merge_sized.Statement.{statement}
 use Rattle.moves.proofs.element.merge_sized.Tie as tie
 
 abbrev Inv-loop : tie.InvT-loop
 Inv-loop dst₀ base step src sbase sstep p pbase m n e₀ dst e =
-    (e ≤ n) × Written (strided base step m) (active p pbase m) (λ (k : ℕ). getD src (strided sbase sstep m k) 0) dst₀ (e * m) dst
+    (e ≤ n) × WrittenTo (strided base step m) (active p pbase m) (λ (k : ℕ). getD src (strided sbase sstep m k) 0) dst₀ (e * m) dst
 
 abbrev μ-loop : tie.MeasureT-loop
 μ-loop dst₀ base step src sbase sstep p pbase m n e₀ dst e = n - e

@@ -4,28 +4,22 @@ use borrow.Author.Needs.{needs}
 use mathlib.Core.Path.{refl}
 use Prim.Native.Nat.{_*_, _-_, _≤_}
 use native.Mathlib.Omega.{arith}
-use Rattle.tiles.specs.Scatter.{all, zeros}
+use Rattle.general.specs.Scatter.{all, zeros}
 use Rattle.tiles.specs.Group.{groupAt}
-use Rattle.moves.proofs.BlockLaws.{Written, written-none, written-block, written-end}
+use Rattle.moves.proofs.BlockLaws.{WrittenTo, written-none, written-block, written-end}
 use Rattle.moves.proofs.GroupLaws.{groupAt-vector}
 use Rattle.moves.proofs.group.clear_group.Statement.{statement}
 use Rattle.moves.proofs.group.clear_group.Tie as tie
 
 abbrev Inv-loop : tie.InvT-loop
 Inv-loop za₀ registers stride vector-bytes group j₀ za j =
-    (j ≤ registers) × Written (groupAt stride vector-bytes group) all zeros za₀ (j * vector-bytes) za
+    (j ≤ registers) × WrittenTo (groupAt stride vector-bytes group) all zeros za₀ (j * vector-bytes) za
 
 abbrev μ-loop : tie.MeasureT-loop
 μ-loop za₀ registers stride vector-bytes group j₀ za j = registers - j
 
 loop-holds : tie.Need-loop-holds Inv-loop μ-loop
 loop-holds c = (omega arith, written-none _ _ _ _ _)
-
-mul-clear-bytes-2 : tie.Need-mul-clear-bytes-2 Inv-loop μ-loop
-mul-clear-bytes-2 c = omega (arith, c .before .before .before .before .pre .1 _ (c .before .loop-test .taken))
-
-clear-bytes-requires : tie.Need-clear-bytes-requires Inv-loop μ-loop
-clear-bytes-requires c κs = omega (arith, c .before .before .before .before .pre .1 _ (c .before .loop-test .taken))
 
 loop-again : tie.Need-loop-again Inv-loop μ-loop
 loop-again c =
@@ -54,8 +48,8 @@ clear-group-spec =
     loop-holds
     (λ c. search needs)
     (λ c. search needs)
-    mul-clear-bytes-2
-    clear-bytes-requires
+    (λ c. omega (arith, c .before .before .before .before .pre .1 _ (c .before .loop-test .taken)))
+    (λ c κs. omega (arith, c .before .before .before .before .pre .1 _ (c .before .loop-test .taken)))
     (λ c. search needs)
     (λ c. search needs)
     loop-again

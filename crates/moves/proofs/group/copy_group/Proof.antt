@@ -6,16 +6,16 @@ use Prim.Native.Nat.{ℕ, _*_, _-_, _≤_}
 use native.Mathlib.Nat.{add-assoc}
 use native.Mathlib.Omega.{arith}
 use lib.ListN.{getD}
-use Rattle.tiles.specs.Scatter.{all, from}
+use Rattle.general.specs.Scatter.{all, onwards}
 use Rattle.tiles.specs.Group.{groupAt}
-use Rattle.moves.proofs.BlockLaws.{Written, block-within, written-none, written-block, written-end}
+use Rattle.moves.proofs.BlockLaws.{WrittenTo, block-within, written-none, written-block, written-end}
 use Rattle.moves.proofs.GroupLaws.{groupAt-vector}
 use Rattle.moves.proofs.group.copy_group.Statement.{statement}
 use Rattle.moves.proofs.group.copy_group.Tie as tie
 
 abbrev Inv-loop : tie.InvT-loop
 Inv-loop z₀ zbase za registers stride vector-bytes group j₀ z j =
-    (j ≤ registers) × Written (from zbase) all (λ (k : ℕ). getD za (groupAt stride vector-bytes group k) 0) z₀ (j * vector-bytes) z
+    (j ≤ registers) × WrittenTo (onwards zbase) all (λ (k : ℕ). getD za (groupAt stride vector-bytes group k) 0) z₀ (j * vector-bytes) z
 
 abbrev μ-loop : tie.MeasureT-loop
 μ-loop z₀ zbase za registers stride vector-bytes group j₀ z j = registers - j
@@ -34,9 +34,6 @@ add-copy-vector c =
     let at-loop = c .before .before in
     let entry = at-loop .before .before .before in
     omega (arith, block-within (at-loop .loop .j) (entry .args .vector-bytes) (entry .args .registers) (c .before .loop-test .taken))
-
-mul-copy-vector-3 : tie.Need-mul-copy-vector-3 Inv-loop μ-loop
-mul-copy-vector-3 c = omega (arith, c .before .before .before .before .before .pre .1 _ (c .before .loop-test .taken))
 
 copy-vector-requires : tie.Need-copy-vector-requires Inv-loop μ-loop
 copy-vector-requires c κs =
@@ -73,7 +70,7 @@ copy-group-spec =
     add-copy-vector
     (λ c. search needs)
     (λ c. search needs)
-    mul-copy-vector-3
+    (λ c. omega (arith, c .before .before .before .before .before .pre .1 _ (c .before .loop-test .taken)))
     copy-vector-requires
     (λ c. search needs)
     (λ c. search needs)

@@ -6,16 +6,16 @@ use Prim.Native.Nat.{ℕ, _+_, _-_, _/_, _≤_}
 use native.Mathlib.Omega.{arith}
 use lib.Bits.{bitAnd}
 use lib.ListN.{length, getD, length-set}
-use Rattle.tiles.specs.Scatter.{all}
-use Rattle.tiles.proofs.ScatterLaws.{scatter-none, scatter-more, scatter-end}
-use Rattle.moves.proofs.BlockLaws.{Written}
+use Rattle.general.specs.Scatter.{all}
+use Rattle.general.proofs.ScatterLaws.{scatter-none, scatter-more, scatter-end}
+use Rattle.moves.proofs.BlockLaws.{WrittenTo}
 use Rattle.moves.proofs.PartLaws.{each, each-filled}
 use Rattle.moves.proofs.merge.flags.Statement.{statement}
 use Rattle.moves.proofs.merge.flags.Tie as tie
 
 abbrev Inv-loop : tie.InvT-loop
 Inv-loop p at bits on₀ i₀ on i =
-    (i ≤ 16) × (length on₀ ≡ 16) × Written each all (λ (k : ℕ). bitAnd (getD p (at + k / 8) 0) (getD bits k 0)) on₀ i on
+    (i ≤ 16) × (length on₀ ≡ 16) × WrittenTo each all (λ (k : ℕ). bitAnd (getD p (at + k / 8) 0) (getD bits k 0)) on₀ i on
 
 abbrev μ-loop : tie.MeasureT-loop
 μ-loop p at bits on₀ i₀ on i = 16 - i

@@ -6,11 +6,11 @@ use Prim.Native.Nat.{ℕ, _+_, _*_, _-_, _≤_}
 use native.Mathlib.Nat.{add-assoc}
 use native.Mathlib.Omega.{arith}
 use lib.ListN.{length, getD}
-use Rattle.encoding.specs.Flat.{bytesOf}
-use Rattle.encoding.specs.declared.operation.ElementSize.{ElementSize}
-use Rattle.tiles.specs.Scatter.{scatter, from}
+use Rattle.tiles.specs.Element.{bytesOf}
+use Rattle.tiles.specs.declared.element.ElementSize.{ElementSize}
+use Rattle.general.specs.Scatter.{scatter, onwards}
 use Rattle.tiles.specs.Predicate.{active}
-use Rattle.tiles.proofs.ScatterLaws.{length-scatter}
+use Rattle.general.proofs.ScatterLaws.{length-scatter}
 use Rattle.moves.specs.Mask.{Masks}
 use Rattle.moves.proofs.BlockLaws.{written-none, written-block, written-end}
 use Rattle.moves.proofs.MaskLaws.{active-flag}
@@ -19,7 +19,7 @@ use Rattle.moves.proofs.merge.merge_sixteens.Tie as tie
 
 abbrev Inv-loop : tie.InvT-loop
 Inv-loop dst₀ at-dst src at-src p pbase n bits g₀ dst g =
-    (g ≤ n) × (length dst ≡ length dst₀) × ((s : ElementSize) → bytesOf s ≤ 8 → Masks (bytesOf s) bits → dst ≡ scatter (from at-dst) (active p pbase (bytesOf s)) (λ (k : ℕ). getD src (at-src + k) 0) (g * 16) dst₀)
+    (g ≤ n) × (length dst ≡ length dst₀) × ((s : ElementSize) → bytesOf s ≤ 8 → Masks (bytesOf s) bits → dst ≡ scatter (onwards at-dst) (active p pbase (bytesOf s)) (λ (k : ℕ). getD src (at-src + k) 0) (g * 16) dst₀)
 
 abbrev μ-loop : tie.MeasureT-loop
 μ-loop dst₀ at-dst src at-src p pbase n bits g₀ dst g = n - g

@@ -3,7 +3,7 @@
 use borrow.Author.Needs.{needs}
 use mathlib.Core.Path.{_≡_, sym, _∙_}
 use native.Mathlib.Omega.{arith}
-use Rattle.encoding.specs.Flat.{bytesOf}
+use Rattle.tiles.specs.Element.{bytesOf}
 use Rattle.moves.proofs.ColumnLaws.{strided-from}
 use Rattle.moves.proofs.MaskLaws.{bytesOf-half}
 use Rattle.moves.proofs.merge.merge_vector.Statement.{statement}

@@ -1,9 +1,9 @@
 -- The proof of the cycle of calls {lowest_free}. The measure is the parts. Of what the two halves have the lower is the answer.
 -- Assumes nothing.
-use Prim.Native.Nat.{ℕ, _+_, _/_, _<_}
+use Prim.Native.Nat.{ℕ, _/_, _<_}
 use native.Mathlib.Omega.{arith}
 use mathlib.Core.Path.{sym, ap, _∙_}
-use Rattle.planner.specs.Held.{heldOf}
+use Rattle.planner.specs.Held.{heldTiles}
 use Rattle.planner.specs.Steps.{lowestIn}
 use Rattle.planner.proofs.SizeLaws.{size-range, size-parts, halved}
 use Rattle.planner.proofs.TileLaws.{exists-tile}
@@ -40,14 +40,14 @@ is-free-requires t c κs =
 returns : (t : ℕ) → lowest-free-lts.Need-returns (is-free-reads.Asked, is-free-reads.Learnt, lowest-free-below t, lowest-free.Post) (lowest-free-at t) lowest-free.Post
 returns t c =
     let a = c .before .before .before .args in
-    sym (lowest-itself (heldOf (a .held)) (16 / a .parts) (a .number) (c .before .before .before .pre .1 .3) (sym (c .before .is-free .ensures) ∙ c .if2 .taken))
-    ∙ ap (λ (k : ℕ). lowestIn (heldOf (a .held)) (16 / k) (16 / a .parts) (a .number)) (c .before .before .if1 .taken)
+    sym (lowest-itself (heldTiles (a .held)) (16 / a .parts) (a .number) (c .before .before .before .pre .1 .3) (sym (c .before .is-free .ensures) ∙ c .if2 .taken))
+    ∙ ap (λ (k : ℕ). lowestIn (heldTiles (a .held)) (16 / k) (16 / a .parts) (a .number)) (c .before .before .if1 .taken)
 
 returns-2 : (t : ℕ) → lowest-free-lts.Need-returns-2 (is-free-reads.Asked, is-free-reads.Learnt, lowest-free-below t, lowest-free.Post) (lowest-free-at t) lowest-free.Post
 returns-2 t c =
     let a = c .before .before .before .args in
-    sym (lowest-taken (heldOf (a .held)) (16 / a .parts) (a .number) (c .before .before .before .pre .1 .3) (sym (c .before .is-free .ensures) ∙ c .if2 .left))
-    ∙ ap (λ (k : ℕ). lowestIn (heldOf (a .held)) (16 / k) (16 / a .parts) (a .number)) (c .before .before .if1 .taken)
+    sym (lowest-taken (heldTiles (a .held)) (16 / a .parts) (a .number) (c .before .before .before .pre .1 .3) (sym (c .before .is-free .ensures) ∙ c .if2 .left))
+    ∙ ap (λ (k : ℕ). lowestIn (heldTiles (a .held)) (16 / k) (16 / a .parts) (a .number)) (c .before .before .if1 .taken)
 
 lowest-free-requires : (t : ℕ) → lowest-free-lts.Need-lowest-free-requires (is-free-reads.Asked, is-free-reads.Learnt, lowest-free-below t, lowest-free.Post) (lowest-free-at t) lowest-free.Post
 lowest-free-requires t c κs =
@@ -69,13 +69,13 @@ returns-3 : (t : ℕ) → lowest-free-lts.Need-returns-3 (is-free-reads.Asked, i
 returns-3 t c =
     let b = c .before .before .before .before in
     let p = b .pre .1 in
-    lowest-left (heldOf (b .args .held)) _ _ _ (p .0) (p .1) (omega (arith, p .2, c .before .before .before .if1 .left)) (p .3) _ _ (c .before .before .lowest-free .ensures) (c .before .lowest-free2 .ensures) (c .if3 .taken)
+    lowest-left (heldTiles (b .args .held)) _ _ _ (p .0) (p .1) (omega (arith, p .2, c .before .before .before .if1 .left)) (p .3) _ _ (c .before .before .lowest-free .ensures) (c .before .lowest-free2 .ensures) (c .if3 .taken)
 
 returns-4 : (t : ℕ) → lowest-free-lts.Need-returns-4 (is-free-reads.Asked, is-free-reads.Learnt, lowest-free-below t, lowest-free.Post) (lowest-free-at t) lowest-free.Post
 returns-4 t c =
     let b = c .before .before .before .before in
     let p = b .pre .1 in
-    lowest-right (heldOf (b .args .held)) _ _ _ (p .0) (p .1) (omega (arith, p .2, c .before .before .before .if1 .left)) (p .3) _ _ (c .before .before .lowest-free .ensures) (c .before .lowest-free2 .ensures) (c .if3 .left)
+    lowest-right (heldTiles (b .args .held)) _ _ _ (p .0) (p .1) (omega (arith, p .2, c .before .before .before .if1 .left)) (p .3) _ _ (c .before .before .lowest-free .ensures) (c .before .lowest-free2 .ensures) (c .if3 .left)
 
 pub +lowest-free-spec : {M : Type 1} → statement M
 +lowest-free-spec = close μ-lowest-free λ t. lowest-free-lts.spec (is-free-reads.Asked, is-free-reads.Learnt, lowest-free-below t, lowest-free.Post)

@@ -7,12 +7,12 @@ use borrow.Author.Tests.{not-true, not-false, leb-true}
 use mathlib.Core.Bool.{cond}
 use lib.ListN.{length, getD, take}
 use lib.Seq.{length-take-le}
-use Rattle.planner.specs.Tile.{noTile, same, without}
+use Rattle.planner.specs.Tile.{noTile, isSame, without}
 use Rattle.planner.specs.Held.{heldFrom, joined, leaving}
 use Rattle.planner.specs.declared.answer.TileAnswer.the-variants.{Done}
-use Rattle.encoding.proofs.BoolLaws.{and-parts}
+use Rattle.general.proofs.BoolLaws.{and-parts}
 use Rattle.planner.proofs.HeldLaws.{tiles-length}
-use Rattle.planner.proofs.RoomLaws.{without-length, keep-more, give-up-invalid, give-up-unheld, give-up-done, length-unheld, length-among}
+use Rattle.planner.proofs.RoomLaws.{gives-up-one, without-length, keep-more, give-up-invalid, give-up-unheld, give-up-done, length-unheld, length-among}
 use Rattle.planner.proofs.giving_up.give_up.Statement.{statement}
 use Rattle.planner.proofs.giving_up.give_up.Tie as tie
 
@@ -27,7 +27,7 @@ places c = tiles-length (c .args .t1) (c .good .0 .1 .1 .0 .1 .0 .1)
 
 returns : tie.Need-returns Inv-loop μ-loop
 returns c =
-    sym (give-up-invalid _ _ (sym (c .before .is-valid .ensures) ∙ not-true _ (c .if1 .taken)))
+    gives-up-one _ _ _ (sym (give-up-invalid _ _ (sym (c .before .is-valid .ensures) ∙ not-true _ (c .if1 .taken))))
 
 loop-holds : tie.Need-loop-holds Inv-loop μ-loop
 unfolding without
@@ -54,7 +54,7 @@ loop-again c =
       refl,
       omega arith,
       omega arith,
-      c .keep .ensures ∙ ap (λ k. cond (same (getD (h .tiles) (b .loop .i) (noTile)) x) k (joined k (getD (h .tiles) (b .loop .i) (noTile)))) (b .loop .inv .3)
+      c .keep .ensures ∙ ap (λ k. cond (isSame (getD (h .tiles) (b .loop .i) (noTile)) x) k (joined k (getD (h .tiles) (b .loop .i) (noTile)))) (b .loop .inv .3)
           ∙ keep-more (h .tiles) (b .loop .i) x (omega (arith, places (b .before .before .before))) (omega arith),
     )
 
@@ -64,7 +64,7 @@ returns-2 c =
     let h = b .before .before .before .args .t1 in
     let z : b .loop .i ≡ h .count = omega arith in
     let e = rw z at (b .loop .inv .3) in
-    sym (give-up-unheld h _ (length-unheld h _ (length-take-le (h .count) (h .tiles) (omega (arith, places (b .before .before .before))) ∙ sym (c .if2 .taken) ∙ ap (λ k. k .count) e)))
+    gives-up-one _ _ _ (sym (give-up-unheld h _ (length-unheld h _ (length-take-le (h .count) (h .tiles) (omega (arith, places (b .before .before .before))) ∙ sym (c .if2 .taken) ∙ ap (λ k. k .count) e))))
 
 returns-3 : tie.Need-returns-3 Inv-loop μ-loop
 returns-3 c =
@@ -74,7 +74,7 @@ returns-3 c =
     let e = rw z at (b .loop .inv .3) in
     let v = sym (b .before .before .is-valid .ensures) ∙ not-false _ (b .before .if1 .left) in
     let held = length-among h _ (λ q. c .if2 .left (ap (λ k. k .count) e ∙ sym q ∙ length-take-le (h .count) (h .tiles) (omega (arith, places (b .before .before .before))))) in
-    ap (leaving Done) e ∙ sym (give-up-done h _ v held)
+    gives-up-one _ _ _ (ap (leaving Done) e ∙ sym (give-up-done h _ v held))
 
 pub give-up-spec : {M : Type 1} → statement M
 give-up-spec =

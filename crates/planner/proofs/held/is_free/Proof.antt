@@ -6,12 +6,12 @@ use native.Mathlib.Omega.{arith}
 use lib.ListN.{length, drop}
 use Rattle.planner.proofs.HeldLaws.{tiles-length, free-stops, free-goes-on, free-ends}
 use Rattle.planner.specs.Tile.{isFree}
-use Rattle.planner.specs.Held.{heldOf}
+use Rattle.planner.specs.Held.{heldTiles}
 use Rattle.planner.proofs.held.is_free.Statement.{statement}
 use Rattle.planner.proofs.held.is_free.Tie as tie
 
 abbrev Inv-loop : tie.InvT-loop
-Inv-loop from x h n i₀ i = (n ≡ h .count) × (from ≤ i) × (i ≤ n) × (isFree (drop from (heldOf h)) x ≡ isFree (drop i (heldOf h)) x)
+Inv-loop from x h n i₀ i = (n ≡ h .count) × (from ≤ i) × (i ≤ n) × (isFree (drop from (heldTiles h)) x ≡ isFree (drop i (heldTiles h)) x)
 
 abbrev μ-loop : tie.MeasureT-loop
 μ-loop from x h n i₀ i = n - i

@@ -6,15 +6,15 @@ use borrow.Author.Tests.{lt-leb, le-leb, not-true, not-false}
 use mathlib.Core.Bool.{true, _&&_}
 use native.Mathlib.Omega.{arith}
 use lib.ListN.{length, drop}
-use Rattle.encoding.proofs.BoolLaws.{and-both}
+use Rattle.general.proofs.BoolLaws.{and-both}
 use Rattle.planner.specs.Tile.{isValid}
-use Rattle.planner.specs.Held.{heldOf}
+use Rattle.planner.specs.Held.{heldTiles}
 use Rattle.planner.proofs.HeldLaws.{tiles-length, nothing-valid, invalid-held, valid-back, invalid-tile, invalid-shared, valid-tiles}
 use Rattle.planner.proofs.held.is_valid.Statement.{statement}
 use Rattle.planner.proofs.held.is_valid.Tie as tie
 
 abbrev Inv-loop : tie.InvT-loop
-Inv-loop h n i₀ i = (n ≡ h .count) × (n ≤ 16) × (i ≤ n) × (isValid (drop i (heldOf h)) ≡ true)
+Inv-loop h n i₀ i = (n ≡ h .count) × (n ≤ 16) × (i ≤ n) × (isValid (drop i (heldTiles h)) ≡ true)
 
 abbrev μ-loop : tie.MeasureT-loop
 μ-loop h n i₀ i = i
@@ -24,7 +24,7 @@ places c = tiles-length (c .args .t1) (c .good .0 .1 .1 .0 .1 .0 .1)
 
 returns : tie.Need-returns Inv-loop μ-loop
 returns c =
-    sym (ap (λ b. b && isValid (heldOf (c .before .args .t1))) (lt-leb _ _ (c .if1 .taken)))
+    sym (ap (λ b. b && isValid (heldTiles (c .before .args .t1))) (lt-leb _ _ (c .if1 .taken)))
 
 loop-holds : tie.Need-loop-holds Inv-loop μ-loop
 loop-holds c =

@@ -3,7 +3,7 @@
 use mathlib.Core.Path.{sym}
 use native.Mathlib.Omega.{arith}
 use borrow.Author.Needs.{needs}
-use Rattle.encoding.proofs.BoolLaws.{refute}
+use Rattle.general.proofs.BoolLaws.{refute}
 use Rattle.planner.specs.Tile.{isSize}
 use Rattle.planner.proofs.SizeLaws.{size-range}
 use Rattle.planner.proofs.tile.is_size.Statement.{statement}

@@ -10,13 +10,13 @@ use native.Mathlib.Omega.{arith}
 use borrow.Author.Needs.{needs}
 use lib.ListN.{length}
 use denote.Ref.{now}
-use Rattle.text.specs.Digits.{allDigits, numberOf}
-use Rattle.text.proofs.DigitLaws.{allDigits-suc, numberOf-fits, parse-long, parse-bad, parse-good}
+use Rattle.text.specs.Digits.{allDigits, numberRead}
+use Rattle.text.proofs.DigitLaws.{allDigits-suc, numberRead-fits, parse-long, parse-bad, parse-good}
 use Rattle.text.proofs.digits.hex_number.Statement.{statement}
 use Rattle.text.proofs.digits.hex_number.Tie as tie
 
 abbrev Inv-loop : tie.InvT-loop
-Inv-loop digits number₀ i₀ number i = (i ≤ length digits) × (allDigits digits i ≡ true) × (number ≡ numberOf digits i)
+Inv-loop digits number₀ i₀ number i = (i ≤ length digits) × (allDigits digits i ≡ true) × (number ≡ numberRead digits i)
 
 abbrev μ-loop : tie.MeasureT-loop
 μ-loop digits number₀ i₀ number i = length digits - i
@@ -43,13 +43,7 @@ read c = c .before .before .before .before .loop .i
 fits : (c : tie.Else2 Inv-loop μ-loop) → c .before .before .before .before .loop .number < 16 ^ 7
 fits c =
     let inv = c .before .before .before .before .loop .inv in
-    rw (inv .2) (numberOf-fits (digits c) (read c) 7 (omega arith) (inv .1))
-
-mul-number : tie.Need-mul-number Inv-loop μ-loop
-mul-number c = omega (arith, fits c)
-
-add-number : tie.Need-add-number Inv-loop μ-loop
-add-number c = omega (arith, fits c)
+    rw (inv .2) (numberRead-fits (digits c) (read c) 7 (omega arith) (inv .1))
 
 loop-again : tie.Need-loop-again Inv-loop μ-loop
 loop-again c =
@@ -73,8 +67,8 @@ hex-number-spec =
     (λ c. search needs)
     (λ c κs. search needs)
     returns-2
-    mul-number
-    add-number
+    (λ c. omega (arith, fits c))
+    (λ c. omega (arith, fits c))
     (λ c. search needs)
     (λ c. search needs)
     loop-again

@@ -1,0 +1,4 @@
+pub mod BoolLaws
+pub mod LeastLaws
+pub mod ScatterLaws
+pub mod PlaceLaws

@@ -1,0 +1,4 @@
+-- In reading order.
+pub mod Least
+pub mod Scatter
+pub mod Places

@@ -1,0 +1,73 @@
+-- Each theorem of specs/Claims.antt.
+-- Assumes nothing.
+use Prim.Native.Nat.{ℕ, _+_}
+use mathlib.Core.Path.{_≡_, refl, sym, ap, _∙_, subst}
+use mathlib.Core.List.{List, [], _∷_, _++_}
+use native.Mathlib.Omega.{arith}
+use Rattle.settings.specs.declared.Settings.{Settings}
+use Rattle.semantics.specs.declared.answer.Refusal.{Refusal}
+use Rattle.semantics.specs.declared.answer.Executed.{Executed}
+use Rattle.semantics.specs.declared.answer.Executed.the-variants.{Done, Refused}
+use Rattle.semantics.specs.State.{State}
+use Rattle.semantics.specs.Execute.{Outcome, ifDone, executeOf}
+use Rattle.semantics.specs.Run.{Ran, oneMore, runOf}
+use Rattle.semantics.specs.Claims.{AnswersAgree, Keeps, ExecutionKeeps, RunGoesOn}
+use Rattle.semantics.proofs.ExecuteLaws.{refused-not-done, Ends, does, stays, ends}
+use Rattle.semantics.proofs.ExecuteLaws as laws
+use Rattle.semantics.proofs.EffectLaws.{effect-keeps}
+
+pub answers-agree : AnswersAgree
+answers-agree s w u = laws.answers-agree s u w
+
+pub execution-keeps : ExecutionKeeps
+execution-keeps s w t = go (ends s w t)
+  where
+    go : Ends s w t → Keeps t (executeOf s w t .state)
+    go (does o d) = subst (Keeps t) (sym (d .state)) (effect-keeps s o t)
+    go (stays r n e) = subst (Keeps t) (sym e) (record { x = refl; p = refl; z = refl; za = refl; memory = refl })
+
+-- ---- runs, word by word
+
+-- what a word makes of a run of the words after it
+abbrev step : Executed → Outcome → Ran → Ran
+step a o r = ifDone a (record { words = 0; ending = o }) (oneMore r)
+
+module _ (s : Settings) where
+  run-one : (t : State) (w : ℕ) → runOf s (w ∷ []) t .ending ≡ executeOf s w t
+  unfolding runOf
+  run-one t w = go (executeOf s w t .answer) (executeOf s w t .state)
+    where
+      go : (a : Executed) (t′ : State) → step a (record { answer = a; state = t′ }) (record { words = 0; ending = record { answer = Done; state = t′ } }) .ending ≡ record { answer = a; state = t′ }
+      go Done t′ = refl
+      go (Refused r) t′ = refl
+
+  -- what is claimed where words go on
+  abbrev GoesOn : List ℕ → List ℕ → State → Type 0
+  GoesOn ws vs t =
+      runOf s ws t .ending .answer ≡ Done →
+      (runOf s (ws ++ vs) t .ending ≡ runOf s vs (runOf s ws t .ending .state) .ending) ×
+      (runOf s (ws ++ vs) t .words ≡ runOf s ws t .words + runOf s vs (runOf s ws t .ending .state) .words)
+
+  run-more : (ws vs : List ℕ) (t : State) → GoesOn ws vs t
+  unfolding runOf
+  run-more [] vs t e = (refl, omega arith)
+  run-more (w ∷ ws) vs t e = go (executeOf s w t .answer) refl e (run-more ws vs (executeOf s w t .state))
+    where
+      go : (a : Executed) → a ≡ executeOf s w t .answer → step a (executeOf s w t) (runOf s ws (executeOf s w t .state)) .ending .answer ≡ Done → GoesOn ws vs (executeOf s w t .state) →
+          (step a (executeOf s w t) (runOf s (ws ++ vs) (executeOf s w t .state)) .ending ≡ runOf s vs (step a (executeOf s w t) (runOf s ws (executeOf s w t .state)) .ending .state) .ending) ×
+          (step a (executeOf s w t) (runOf s (ws ++ vs) (executeOf s w t .state)) .words ≡ step a (executeOf s w t) (runOf s ws (executeOf s w t .state)) .words + runOf s vs (step a (executeOf s w t) (runOf s ws (executeOf s w t .state)) .ending .state) .words)
+      go Done q e ih = let h = ih e in (h .0, omega (arith, h .1))
+      go (Refused r) q e ih = absurd (refused-not-done r (q ∙ e))
+
+  run-stops : (ws vs : List ℕ) (t : State) (r : Refusal) → runOf s ws t .ending .answer ≡ Refused r → runOf s (ws ++ vs) t ≡ runOf s ws t
+  unfolding runOf
+  run-stops [] vs t r e = absurd (refused-not-done r (sym e))
+  run-stops (w ∷ ws) vs t r e = go (executeOf s w t .answer) e (run-stops ws vs (executeOf s w t .state) r)
+    where
+      go : (a : Executed) → step a (executeOf s w t) (runOf s ws (executeOf s w t .state)) .ending .answer ≡ Refused r → (runOf s ws (executeOf s w t .state) .ending .answer ≡ Refused r → runOf s (ws ++ vs) (executeOf s w t .state) ≡ runOf s ws (executeOf s w t .state)) →
+          step a (executeOf s w t) (runOf s (ws ++ vs) (executeOf s w t .state)) ≡ step a (executeOf s w t) (runOf s ws (executeOf s w t .state))
+      go Done e ih = ap oneMore (ih e)
+      go (Refused r′) e ih = refl
+
+pub run-goes-on : RunGoesOn
+run-goes-on s t = record { one = run-one s t; more = λ ws vs. run-more s ws vs t; stops = λ ws vs. run-stops s ws vs t }

@@ -1,0 +1,4 @@
+pub mod Examples
+pub mod ExecuteLaws
+pub mod EffectLaws
+pub mod Claims

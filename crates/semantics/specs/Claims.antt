@@ -1,0 +1,41 @@
+-- The theorems about execution and runs, as statements; proofs/Claims.antt proves each.
+-- Assumes nothing.
+use Prim.Native.Nat.{ℕ, _+_}
+use mathlib.Core.Path.{_≡_}
+use mathlib.Core.List.{List, [], _∷_, _++_}
+use lib.ListN.{length}
+use Rattle.settings.specs.declared.Settings.{Settings}
+use Rattle.semantics.specs.declared.answer.Refusal.{Refusal}
+use Rattle.semantics.specs.declared.answer.Executed.the-variants.{Done, Refused}
+use Rattle.semantics.specs.Answer.{executedAnswer}
+use Rattle.semantics.specs.State.{State, Public}
+use Rattle.semantics.specs.Execute.{answerOf, executeOf}
+use Rattle.semantics.specs.Lines.{answerInNumbers}
+use Rattle.semantics.specs.Run.{runOf}
+
+-- both definitions of the answer are the same
+abbrev pub AnswersAgree : Type 0
+AnswersAgree = (s : Settings) (w : ℕ) (u : Public) → executedAnswer (answerOf s w u) ≡ answerInNumbers s w u
+
+-- whatever the answer, an execution leaves X and P as they were, and every buffer as long as it was
+pub record Keeps (t t′ : State) : Type 0 where
+  pub x : t′ .x ≡ t .x
+  pub p : t′ .p ≡ t .p
+  pub z : length (t′ .z) ≡ length (t .z)
+  pub za : length (t′ .za) ≡ length (t .za)
+  pub memory : length (t′ .memory) ≡ length (t .memory)
+
+abbrev pub ExecutionKeeps : Type 0
+ExecutionKeeps = (s : Settings) (w : ℕ) (t : State) → Keeps t (executeOf s w t .state)
+
+-- a run of one word is its execution; where some words are all done, more words go on from the state that they left; where they are not,
+-- more words change nothing
+pub record RunsGoOn (s : Settings) (t : State) : Type 0 where
+  pub one : (w : ℕ) → runOf s (w ∷ []) t .ending ≡ executeOf s w t
+  pub more : (ws vs : List ℕ) → runOf s ws t .ending .answer ≡ Done →
+      (runOf s (ws ++ vs) t .ending ≡ runOf s vs (runOf s ws t .ending .state) .ending) ×
+      (runOf s (ws ++ vs) t .words ≡ runOf s ws t .words + runOf s vs (runOf s ws t .ending .state) .words)
+  pub stops : (ws vs : List ℕ) (r : Refusal) → runOf s ws t .ending .answer ≡ Refused r → runOf s (ws ++ vs) t ≡ runOf s ws t
+
+abbrev pub RunGoesOn : Type 0
+RunGoesOn = (s : Settings) (t : State) → RunsGoOn s t

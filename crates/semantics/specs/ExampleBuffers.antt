@@ -1,0 +1,94 @@
+-- The buffers that the worked examples are executed on, and what a host sees of an execution.
+-- To believe: the buffers, and that `Seen` has all that a host sees.
+-- Assumes nothing.
+use Prim.Native.Nat.{ℕ, zero, suc, _+_, _*_, _/_, _%_}
+use mathlib.Core.Bool.{Bool, true, not, cond}
+use mathlib.Core.List.{List, [], _∷_, _++_}
+use lib.ListN.{set, take, drop, replicate}
+use Rattle.settings.specs.Settings.{settingsOf, withStreaming, withZa, withMemoryAddress}
+use Rattle.settings.specs.declared.Settings.{Settings}
+use Rattle.semantics.specs.Answer.{executedNumber, executedAddress}
+use Rattle.semantics.specs.State.{State, stateOf}
+use Rattle.semantics.specs.Execute.{Outcome, executeOf}
+
+-- bytes in turn from two lists, the first byte from the first list if the test holds
+abbrev pub alternate : Bool → List ℕ → List ℕ → List ℕ
+alternate b [] ys = []
+alternate b (x ∷ xs) [] = []
+alternate b (x ∷ xs) (y ∷ ys) = cond b x y ∷ alternate (not b) xs ys
+
+-- n bytes from index i on, none of them zero, neighbours different; each buffer starts elsewhere
+abbrev pub bytesFrom : ℕ → ℕ → List ℕ
+bytesFrom i zero = []
+bytesFrom i (suc n) = (i * 7 % 251 + 1) ∷ bytesFrom (suc i) n
+
+abbrev pub vectorIn : List ℕ → ℕ → ℕ → List ℕ
+vectorIn l B v = take B (drop (v * B) l)
+
+-- settings with the two switches so, and of level 3 with both on
+abbrev pub switched : Settings → Bool → Bool → Settings
+switched s streaming za = withZa (withStreaming s streaming) za
+
+abbrev pub settingsAt : ℕ → ℕ → Settings
+settingsAt B address = withMemoryAddress (switched (settingsOf B 3) true true) address
+
+abbrev pub zAt : ℕ → List ℕ
+zAt B = bytesFrom 11 (32 * B)
+
+abbrev pub zaAt : ℕ → List ℕ
+zaAt B = bytesFrom 97 (B * B)
+
+abbrev pub memoryOf : ℕ → List ℕ
+memoryOf n = bytesFrom 200 n
+
+abbrev pub stateAt : ℕ → ℕ → List ℕ → List ℕ → State
+stateAt B n x p = stateOf x (zAt B) p (zaAt B) (memoryOf n)
+
+-- X with one register set
+abbrev pub xWith : ℕ → ℕ → List ℕ
+xWith r v = set (bytesFrom 50 32) r v
+
+-- P with every bit set, and with register 0 given, all others set
+abbrev pub ones : ℕ → List ℕ
+ones B = replicate (16 * (B / 8)) 255
+
+abbrev pub predicate0 : ℕ → List ℕ → List ℕ
+predicate0 B r = r ++ replicate (15 * (B / 8)) 255
+
+-- what a host sees of an execution: the number and the address of its answer, and the buffers that a word may write
+pub record Seen : Type 0 where
+  pub number : ℕ
+  pub address : ℕ
+  pub z : List ℕ
+  pub za : List ℕ
+  pub memory : List ℕ
+
+abbrev pub seen : Outcome → Seen
+seen o = record { number = executedNumber (o .answer); address = executedAddress (o .answer); z = o .state .z; za = o .state .za; memory = o .state .memory }
+
+-- a word executed at a vector length, with memory of n bytes at an address, and at address 0
+abbrev pub executedIn : ℕ → ℕ → ℕ → ℕ → List ℕ → List ℕ → Seen
+executedIn B address n w x p = seen (executeOf (settingsAt B address) w (stateAt B n x p))
+
+abbrev pub executed : ℕ → ℕ → ℕ → List ℕ → List ℕ → Seen
+executed B w n x p = executedIn B 0 n w x p
+
+-- at 16 bytes under a level and the two switches, and with both on
+abbrev pub executedUnder : ℕ → Bool → Bool → ℕ → Seen
+executedUnder level streaming za w =
+    seen (executeOf (switched (settingsOf 16 level) streaming za) w (stateAt 16 8 (bytesFrom 50 32) (ones 16)))
+
+abbrev pub executedAt : ℕ → ℕ → Seen
+executedAt level w = executedUnder level true true w
+
+-- a buffer of n vectors of B bytes, given by vector
+abbrev pub vectors : ℕ → ℕ → (ℕ → List ℕ) → List ℕ
+vectors B zero f = []
+vectors B (suc n) f = vectors B n f ++ f n
+
+-- 0, with these Z, ZA and memory; refused by a number with an address, nothing changed
+abbrev pub doneWith : List ℕ → List ℕ → List ℕ → Seen
+doneWith z za memory = record { number = 0; address = 0; z = z; za = za; memory = memory }
+
+abbrev pub refusedWith : ℕ → ℕ → ℕ → ℕ → Seen
+refusedWith B n number address = record { number = number; address = address; z = zAt B; za = zaAt B; memory = memoryOf n }
