@@ -10,6 +10,7 @@ ghost use Rattle.encoder.specs.Steps.{offsetCount, sliceHeld};
 use encoding::Encoded;
 use encoding::Operation;
 use encoding::RegisterCount;
+use encoding::SliceAccess;
 use tiles::Direction;
 use tiles::ElementSize;
 
@@ -38,22 +39,7 @@ pub fn encode(operation: Operation) -> Encoded
             let registers = o.registers;
             encode_array(true, registers, o.rv, o.off, o.zd)
         }
-        Operation::St1(o) => {
-            let s = o.slice;
-            let size = s.size;
-            let direction = s.direction;
-            encode_access(
-                true,
-                size,
-                direction,
-                s.index,
-                o.pg,
-                o.rn,
-                o.rm,
-                s.tile,
-                s.offset,
-            )
-        }
+        Operation::St1(o) => encode_slice_access(true, o),
         Operation::MovaFromTile(o) => {
             let w = o.whole;
             let s = w.slice;
@@ -70,22 +56,7 @@ pub fn encode(operation: Operation) -> Encoded
                 w.zd,
             )
         }
-        Operation::Ld1(o) => {
-            let s = o.slice;
-            let size = s.size;
-            let direction = s.direction;
-            encode_access(
-                false,
-                size,
-                direction,
-                s.index,
-                o.pg,
-                o.rn,
-                o.rm,
-                s.tile,
-                s.offset,
-            )
-        }
+        Operation::Ld1(o) => encode_slice_access(false, o),
     }
 }
 
@@ -213,6 +184,26 @@ fn access_bits(stores: bool, size: ElementSize) -> u32
 }
 
 // A store or a load.
+fn encode_slice_access(stores: bool, o: SliceAccess) -> Encoded
+    ensures { λ r. ⌜ Encodes (accessMove stores o) r ⌝ }
+{
+    let s = o.slice;
+    let size = s.size;
+    let direction = s.direction;
+    encode_access(
+        stores,
+        size,
+        direction,
+        s.index,
+        o.pg,
+        o.rn,
+        o.rm,
+        s.tile,
+        s.offset,
+    )
+}
+
+// The same by its parts.
 fn encode_access(
     stores: bool,
     size: ElementSize,

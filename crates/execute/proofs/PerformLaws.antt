@@ -55,10 +55,10 @@ module _ (s : Settings) (w : ℕ) (t : State) where
   buffers-refuse r e = refused-executes r (buffers-refused s (length (t .x)) (length (t .z)) (length (t .p)) (length (t .za)) (length (t .memory)) (wordAnswer s (t .x) (t .p) (length (t .memory)) (decodeOf w (s .level))) r e)
 
   -- the word refuses
-  pub word-refuses : (r : Refusal) → SizedAt s w t → wordAnswer s (t .x) (t .p) (length (t .memory)) (decodeOf w (s .level)) ≡ Refused r → Executes s w t (Refused r) t
+  pub word-refuses : (r : Refusal) → SizedAt s t → wordAnswer s (t .x) (t .p) (length (t .memory)) (decodeOf w (s .level)) ≡ Refused r → Executes s w t (Refused r) t
   word-refuses r h e = refused-executes r (sized-answer s w t h ∙ e)
 
-  module _ (o : Operation) (h : SizedAt s w t) (dec : decodeOf w (s .level) ≡ decoded.Done o) where
+  module _ (o : Operation) (h : SizedAt s t) (dec : decodeOf w (s .level) ≡ decoded.Done o) where
     rest : Executed
     rest = operationAnswer s (t .x) (t .p) (length (t .memory)) o
 

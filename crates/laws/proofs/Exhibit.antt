@@ -110,7 +110,7 @@ module _ (B n : ℕ) (ss : ℕ → Settings) (zs ps : ℕ → List ℕ) (valid :
   call-done o means ans =
       let c = callOn n o ss zs ps k in
       let decodes : decodedOf c ≡ decoded.Done o = ap (decodeOf (wordFor o)) (ready .level) ∙ means in
-      let sized : SizedAt (ss k) (wordFor o) (stateWith c za) =
+      let sized : SizedAt (ss k) (stateWith c za) =
       record { vector = rw (ready .vector) valid; level = omega (arith, ready .level); x = length-set (replicate 32 0) 12 (k + n); z = rw (ready .vector) (ready .vectors); p = rw (ready .vector) (ready .predicates); za = rw (ready .vector) long; memory = omega (arith, ready .address) } in
       ap (λ (a : Executed). ifDone a none (decodedMove c (decodedOf c))) (operation-answer (ss k) (wordFor o) (stateWith c za) o sized decodes (ready .streaming) (ready .za) ∙ ans) ∙
       ap (decodedMove c) decodes

@@ -127,15 +127,15 @@ module _ (s : Settings) (u : Public) where
 
 -- ---- one execution
 
-module _ (s : Settings) (w : ℕ) (t : State) where
-  -- what the check of settings and lengths finds of a state
-  abbrev pub SizedAt : Type 0
-  SizedAt = Sized s (length (t .x)) (length (t .z)) (length (t .p)) (length (t .za)) (length (t .memory))
+-- what the check of settings and lengths finds of a state
+abbrev pub SizedAt : Settings → State → Type 0
+SizedAt s t = Sized s (length (t .x)) (length (t .z)) (length (t .p)) (length (t .za)) (length (t .memory))
 
+module _ (s : Settings) (w : ℕ) (t : State) where
   -- what a done execution of an operation is
   pub record Does (o : Operation) : Type 0 where
     pub answer : executeOf s w t .answer ≡ Done
-    pub sized : SizedAt
+    pub sized : SizedAt s t
     pub decoded : decodeOf w (s .level) ≡ decoded.Done o
     pub state : executeOf s w t .state ≡ effectOf s o t
 
@@ -170,12 +170,12 @@ module _ (s : Settings) (w : ℕ) (t : State) where
       go (Refused r) e = stays r e (ap (λ (a : Executed). ifDone a t (wordEffect s (decodeOf w (s .level)) t)) e)
 
   -- with the right lengths the word decides
-  pub sized-answer : SizedAt → executeOf s w t .answer ≡ wordAnswer s (t .x) (t .p) (length (t .memory)) (decodeOf w (s .level))
+  pub sized-answer : SizedAt s t → executeOf s w t .answer ≡ wordAnswer s (t .x) (t .p) (length (t .memory)) (decodeOf w (s .level))
   unfolding executeOf answerOf
   sized-answer h = buffers-rest s _ _ _ _ _ _ h
 
   -- an execution of an operation with streaming and ZA on answers what the operation answers
-  pub operation-answer : (o : Operation) → SizedAt → decodeOf w (s .level) ≡ decoded.Done o → s .streaming ≡ true → s .za ≡ true → executeOf s w t .answer ≡ operationAnswer s (t .x) (t .p) (length (t .memory)) o
+  pub operation-answer : (o : Operation) → SizedAt s t → decodeOf w (s .level) ≡ decoded.Done o → s .streaming ≡ true → s .za ≡ true → executeOf s w t .answer ≡ operationAnswer s (t .x) (t .p) (length (t .memory)) o
   operation-answer o h dec on za =
       let rest = operationAnswer s (t .x) (t .p) (length (t .memory)) o in
       sized-answer h ∙

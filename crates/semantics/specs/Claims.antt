@@ -1,14 +1,18 @@
 -- The theorems about execution and runs, as statements; proofs/Claims.antt proves each.
 -- Assumes nothing.
-use Prim.Native.Nat.{ℕ, _+_}
+use Prim.Native.Nat.{ℕ, _+_, _<_}
 use mathlib.Core.Path.{_≡_}
+use mathlib.Core.Bool.{true}
 use mathlib.Core.List.{List, [], _∷_, _++_}
-use lib.ListN.{length}
+use lib.ListN.{length, getD}
+use Rattle.general.specs.Places.{Places}
 use Rattle.settings.specs.declared.Settings.{Settings}
+use Rattle.encoding.specs.declared.operation.Operation.{Operation}
 use Rattle.semantics.specs.declared.answer.Refusal.{Refusal}
 use Rattle.semantics.specs.declared.answer.Executed.the-variants.{Done, Refused}
 use Rattle.semantics.specs.Answer.{executedAnswer}
-use Rattle.semantics.specs.State.{State, Public}
+use Rattle.semantics.specs.State.{State, Public, publicOf}
+use Rattle.semantics.specs.Effect.{writesOf, effectOf}
 use Rattle.semantics.specs.Execute.{answerOf, executeOf}
 use Rattle.semantics.specs.Lines.{answerInNumbers}
 use Rattle.semantics.specs.Run.{runOf}
@@ -27,6 +31,19 @@ pub record Keeps (t t′ : State) : Type 0 where
 
 abbrev pub ExecutionKeeps : Type 0
 ExecutionKeeps = (s : Settings) (w : ℕ) (t : State) → Keeps t (executeOf s w t .state)
+
+-- i is none of the places that are written
+abbrev pub Untouched : Places → ℕ → Type 0
+Untouched q i = (k : ℕ) → k < q .count → q .on k ≡ true → i ≡ q .at k → ⊥
+
+-- an operation leaves every byte of Z, ZA and memory that is none of its places
+pub record LeavesOthers (s : Settings) (o : Operation) (t : State) : Type 0 where
+  pub z : (i : ℕ) → Untouched (writesOf s (publicOf t) o .z) i → getD (effectOf s o t .z) i 0 ≡ getD (t .z) i 0
+  pub za : (i : ℕ) → Untouched (writesOf s (publicOf t) o .za) i → getD (effectOf s o t .za) i 0 ≡ getD (t .za) i 0
+  pub memory : (i : ℕ) → Untouched (writesOf s (publicOf t) o .memory) i → getD (effectOf s o t .memory) i 0 ≡ getD (t .memory) i 0
+
+abbrev pub EffectLeavesOthers : Type 0
+EffectLeavesOthers = (s : Settings) (o : Operation) (t : State) → LeavesOthers s o t
 
 -- a run of one word is its execution; where some words are all done, more words go on from the state that they left; where they are not,
 -- more words change nothing

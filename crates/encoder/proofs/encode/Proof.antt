@@ -21,13 +21,13 @@ returns-4 : tie.Need-returns-4
 returns-4 c = rw (c .before .before .operation4 .given .1) (c .encode-array2 .ensures)
 
 returns-5 : tie.Need-returns-5
-returns-5 c = rw (c .before .before .before .operation5 .given .1) (c .encode-access .ensures)
+returns-5 c = rw (c .before .before .operation5 .given .1) (c .encode-slice-access .ensures)
 
 returns-6 : tie.Need-returns-6
 returns-6 c = rw (c .before .before .before .before .operation6 .given .1) (c .encode-from-tile2 .ensures)
 
 returns-7 : tie.Need-returns-7
-returns-7 c = rw (c .before .before .before .operation7 .given .1) (c .encode-access2 .ensures)
+returns-7 c = rw (c .before .before .operation7 .given .1) (c .encode-slice-access2 .ensures)
 
 pub encode-spec : {M : Type 1} → statement M
 encode-spec =
