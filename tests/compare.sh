@@ -15,6 +15,7 @@ compare=rust/target/release/compare
 "$compare" --count 400000 "$@" --request 2
 for mistake in TileAsBlock SliceModuloVectorLength BaseThirtyOneAsZero OffsetThirtyOneAsStackPointer \
     PredicateBitPerElement StoreBeforeFault IndexAddTrapsAt32Bits InactiveZeroed FourByStrideOfTwo \
-    BitNineIgnored LoadKeepsInactive LoadKeepsTrailing OffsetNotScaled FaultAtElement FirstByteChecked BigEndian; do
+    BitNineIgnored LoadKeepsInactive LoadKeepsTrailing OffsetNotScaled FaultAtElement FirstByteChecked BigEndian \
+    LongMemoryRefused FarBytesOutside MemoryLengthIn16Bits MemoryOffsetIn16Bits; do
     "$compare" "$@" --mistake "$mistake" | tail -1
 done

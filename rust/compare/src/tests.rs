@@ -113,6 +113,34 @@ fn cases_reach_all_that_can_occur() {
     }
 }
 
+/// A run that never had long memory is told so, of loads and stores done and
+/// refused with 7, and of nothing else.
+#[test]
+fn missing_long_memory_is_told() {
+    let mut random = Random::new(11);
+    let mut case = Case::empty();
+    let mut outcome = Outcome::default();
+    let mut counts = Counts::new(Drawn::All);
+    while counts.cases() < 150_000 {
+        generate(&mut random, &mut case, Drawn::All);
+        if case.memory.len() < 1 << 10 {
+            outcome.run_second(&case, Mistake::None);
+            counts.add(&case, &outcome);
+        }
+    }
+    let told = counts.check().expect_err("long memory is missing");
+    let of_memory = |line: &str| line.contains("KiB") || line.contains("of memory on");
+    assert!(told.lines().all(of_memory), "{told}");
+    for name in ["store", "load"] {
+        for m in [1, 2, 4, 8, 16] {
+            for what in ["done", "fault"] {
+                let line = format!("never: {name}, m={m}, {what}, memory of over 64 KiB to 1 MiB");
+                assert!(told.contains(&line), "{line}");
+            }
+        }
+    }
+}
+
 /// How many of 100,000 cases have words of each row, and of none.
 fn counts_of_rows(drawn: Drawn) -> [usize; NO_ENCODING + 1] {
     let mut random = Random::new(12);
@@ -303,6 +331,10 @@ fn worked_examples_tell_mistakes() {
         Mistake::FaultAtElement,
         Mistake::FirstByteChecked,
         Mistake::BigEndian,
+        Mistake::LongMemoryRefused,
+        Mistake::FarBytesOutside,
+        Mistake::MemoryLengthIn16Bits,
+        Mistake::MemoryOffsetIn16Bits,
     ] {
         let told = |worked: &worked::Worked| {
             let mut outcome = Outcome::default();

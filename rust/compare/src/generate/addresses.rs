@@ -2,6 +2,7 @@
 //! it.
 
 use super::causes::Causes;
+use super::memory::BORDERS;
 use super::predicates;
 use super::registers::value;
 use crate::case::Case;
@@ -86,13 +87,25 @@ fn span(register: &[u8], operation: &Flat) -> Option<Span> {
 /// too small the last active ones stay out.
 fn inside(random: &mut Random, case: &Case, span: Span) -> u64 {
     let spare = (case.memory.len() as u64).saturating_sub(span.bytes());
-    let place = match random.below(4) {
-        0 => 0,
-        1 => spare,
+    let place = match random.below(8) {
+        0 | 1 => 0,
+        2 | 3 => spare,
+        4 | 5 => at_border(random, spare, span),
         _ => random.below(spare as usize + 1) as u64,
     };
     let low = case.settings.memory_address.wrapping_add(place);
     low.wrapping_sub(span.before())
+}
+
+/// A place not above `spare` from which the active elements reach the byte of
+/// a border, and mostly begin before it. Where memory is too short for that
+/// it is any place.
+fn at_border(random: &mut Random, spare: u64, span: Span) -> u64 {
+    let border = random.pick(&BORDERS) as u64;
+    if spare < border {
+        return random.below(spare as usize + 1) as u64;
+    }
+    border - random.below(span.bytes() as usize) as u64
 }
 
 /// An address of element 0 that leaves an active element outside: some out

@@ -45,8 +45,7 @@ fn fill(random: &mut Random, case: &mut Case, operation: &Flat) {
     fill_bytes(random, &mut case.z, 32 * vector_bytes);
     fill_bytes(random, &mut case.p, 16 * (vector_bytes / 8));
     fill_bytes(random, &mut case.za, vector_bytes * vector_bytes);
-    let element_bytes = usize::from(operation.element_bytes);
-    let length = memory::length(random, vector_bytes, element_bytes);
+    let length = memory::length(random, vector_bytes, operation);
     fill_bytes(random, &mut case.memory, length);
     case.settings.memory_address = memory::address(random, length);
 }

@@ -45,6 +45,6 @@ fn name_memory_ends(all: &mut Situations) {
     });
 }
 
-fn fixed_lengths(v: &View) -> bool {
+pub fn fixed_lengths(v: &View) -> bool {
     FIXED.iter().all(|(_, own, right)| own(v) == right(v))
 }

@@ -2,6 +2,7 @@
 
 mod accesses;
 mod buffers;
+mod memory;
 mod moves;
 mod settings;
 mod slices;
@@ -30,6 +31,7 @@ impl Situations {
         moves::name(&mut all, drawn);
         accesses::name(&mut all, drawn);
         buffers::name(&mut all);
+        memory::name(&mut all, drawn);
         settings::name(&mut all);
         all
     }

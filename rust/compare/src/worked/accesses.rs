@@ -1,5 +1,5 @@
 //! Worked examples of loads and stores: the ends of memory, the end of all
-//! addresses, which byte answer 7 tells, and what becomes zero.
+//! addresses, which byte answer 7 tells, what becomes zero, and long memory.
 
 use super::{bytes, case, Worked};
 use crate::case::Case;
@@ -229,9 +229,91 @@ const EXAMPLES: [Example; 15] = [
     },
 ];
 
+/// In memory of more bytes than 16 bits can count.
+const LONG: [Example; 6] = [
+    Example {
+        name: "the middle of 1 MiB",
+        load: 0xE082_0020,
+        vector_bytes: 16,
+        memory: (0x2000, 0x10_0000),
+        base: 0x8_2003,
+        offset: 0,
+        bits: &[0, 4, 8, 12],
+        expected: Expected::Done {
+            m: 4,
+            moved: &[(0, 0x8_0003), (4, 0x8_0007), (8, 0x8_000B), (12, 0x8_000F)],
+            zeroed: &[],
+        },
+    },
+    Example {
+        name: "the last bytes of 1 MiB",
+        load: 0xE0C2_0020,
+        vector_bytes: 16,
+        memory: (0, 0x10_0000),
+        base: 0xF_FFF0,
+        offset: 0,
+        bits: &[0, 8],
+        expected: Expected::Done {
+            m: 8,
+            moved: &[(0, 0xF_FFF0), (8, 0xF_FFF8)],
+            zeroed: &[],
+        },
+    },
+    Example {
+        name: "the last bytes of 1 MiB and an inactive element behind",
+        load: 0xE0C2_0020,
+        vector_bytes: 16,
+        memory: (0, 0x10_0000),
+        base: 0xF_FFF8,
+        offset: 0,
+        bits: &[0],
+        expected: Expected::Done {
+            m: 8,
+            moved: &[(0, 0xF_FFF8)],
+            zeroed: &[8],
+        },
+    },
+    // Element 1 has byte 65,536 in it.
+    Example {
+        name: "before and behind byte 65,536",
+        load: 0xE0C2_0020,
+        vector_bytes: 16,
+        memory: (0x300, 0x1_0100),
+        base: 0x1_02F3,
+        offset: 0,
+        bits: &[0, 8],
+        expected: Expected::Done {
+            m: 8,
+            moved: &[(0, 0xFFF3), (8, 0xFFFB)],
+            zeroed: &[],
+        },
+    },
+    // Element 2 of four is at 65,535, and memory has 65,537 bytes.
+    Example {
+        name: "an element over the end of 65,537 bytes",
+        load: 0xE082_0020,
+        vector_bytes: 16,
+        memory: (0, 0x1_0001),
+        base: 0xFFF7,
+        offset: 0,
+        bits: &[0, 4, 8, 12],
+        expected: Expected::Refused(7, 0x1_0001),
+    },
+    Example {
+        name: "the byte before 1 MiB",
+        load: 0xE002_0020,
+        vector_bytes: 16,
+        memory: (0x2000, 0x10_0000),
+        base: 0x1FFF,
+        offset: 0,
+        bits: &[0, 1],
+        expected: Expected::Refused(7, 0x1FFF),
+    },
+];
+
 pub fn list() -> Vec<Worked> {
     let both = |example: &Example| [example.loaded(), example.stored()];
-    let mut all: Vec<Worked> = EXAMPLES.iter().flat_map(both).collect();
+    let mut all: Vec<Worked> = EXAMPLES.iter().chain(&LONG).flat_map(both).collect();
     all.extend(there_and_back());
     all
 }

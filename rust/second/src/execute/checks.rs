@@ -1,6 +1,6 @@
 //! Answers 1, 2, 4 and 5 (document 01, section 6).
 
-use super::{Buffers, Settings, VECTOR_LENGTHS};
+use super::{Buffers, Mistake, Settings, VECTOR_LENGTHS};
 use crate::refusal::Refusal;
 
 /// The highest feature level, SME2.1 (section 2).
@@ -22,14 +22,14 @@ pub fn settings(settings: &Settings) -> Result<u8, Refusal> {
 
 /// Answer 2, with a vector length that is one of the five: section 2 fixes
 /// the four lengths by it, and memory must end at 2^64 or before.
-pub fn lengths(settings: &Settings, buffers: &Buffers) -> Result<(), Refusal> {
+pub fn lengths(mistake: Mistake, settings: &Settings, buffers: &Buffers) -> Result<(), Refusal> {
     let vector_bytes = settings.vector_bytes as usize;
     let fixed = buffers.x.len() == 32
         && buffers.z.len() == 32 * vector_bytes
         && buffers.p.len() == 16 * (vector_bytes / 8)
         && buffers.za.len() == vector_bytes * vector_bytes;
     let memory_end = u128::from(settings.memory_address) + buffers.memory.len() as u128;
-    if fixed && memory_end <= ADDRESSES {
+    if fixed && memory_end <= ADDRESSES && mistake.allows_memory(buffers.memory.len()) {
         Ok(())
     } else {
         Err(Refusal::Length)

@@ -1,23 +1,31 @@
 //! Memory: bytes from an address on (document 01, section 2).
 
-/// Memory that ends at 2^64 or before.
+use super::Mistake;
+
+/// Memory that ends at 2^64 or before, and the mistake to be made on it.
 pub struct Memory<'a> {
+    mistake: Mistake,
     address: u64,
     bytes: &'a mut [u8],
 }
 
 impl<'a> Memory<'a> {
-    pub fn new(address: u64, bytes: &'a mut [u8]) -> Memory<'a> {
-        Memory { address, bytes }
+    pub fn new(mistake: Mistake, address: u64, bytes: &'a mut [u8]) -> Memory<'a> {
+        Memory {
+            mistake,
+            address,
+            bytes,
+        }
     }
 
     /// The byte at `address`, if it is in memory. The end may be 2^64, which
     /// no address can name, so the test is over wider numbers.
     fn place(&self, address: u64) -> Option<usize> {
         let first = u128::from(self.address);
-        let end = first + self.bytes.len() as u128;
+        let end = first + self.mistake.length_seen(self.bytes.len()) as u128;
         let wanted = u128::from(address);
-        (first <= wanted && wanted < end).then(|| (wanted - first) as usize)
+        let found = first <= wanted && wanted < end;
+        found.then(|| self.mistake.offset_seen((wanted - first) as usize))
     }
 
     pub fn has(&self, address: u64) -> bool {

@@ -1,7 +1,15 @@
 //! Deliberate mistakes: those that document 01, section 8 warns of, three
-//! that the words of request 1 invite, and six that those of request 2 do.
+//! that the words of request 1 invite, six that those of request 2 do, and
+//! four that show only in long memory.
 //!
 //! Only the comparison runs them, to show that it would notice each.
+
+/// The longest memory that the mistake about long memory lets pass.
+const LONGEST_ALLOWED: usize = 4096;
+/// The first byte of memory that the mistake about far bytes does not find.
+const FIRST_FAR: usize = 1024;
+/// How many numbers have 16 bits.
+const IN_16_BITS: usize = 1 << 16;
 
 /// One mistake, or none.
 #[derive(Clone, Copy, Debug, PartialEq, Eq)]
@@ -46,11 +54,21 @@ pub enum Mistake {
     FirstByteChecked,
     /// The highest byte of an element is first in memory.
     BigEndian,
+    /// Memory of more than 4,096 bytes is refused with 2, whatever the word.
+    LongMemoryRefused,
+    /// Bytes of memory from number 1,024 on are taken to be outside, and
+    /// refused with 7.
+    FarBytesOutside,
+    /// Of the length of memory, accesses know the low 16 bits.
+    MemoryLengthIn16Bits,
+    /// A byte of memory is found, and then looked for at the low 16 bits of
+    /// its number.
+    MemoryOffsetIn16Bits,
 }
 
 impl Mistake {
     /// Every mistake, with the name that the command line has for it.
-    pub const NAMED: [(&'static str, Mistake); 16] = [
+    pub const NAMED: [(&'static str, Mistake); 20] = [
         ("TileAsBlock", Mistake::TileAsBlock),
         ("SliceModuloVectorLength", Mistake::SliceModuloVectorLength),
         ("BaseThirtyOneAsZero", Mistake::BaseThirtyOneAsZero),
@@ -70,6 +88,10 @@ impl Mistake {
         ("FaultAtElement", Mistake::FaultAtElement),
         ("FirstByteChecked", Mistake::FirstByteChecked),
         ("BigEndian", Mistake::BigEndian),
+        ("LongMemoryRefused", Mistake::LongMemoryRefused),
+        ("FarBytesOutside", Mistake::FarBytesOutside),
+        ("MemoryLengthIn16Bits", Mistake::MemoryLengthIn16Bits),
+        ("MemoryOffsetIn16Bits", Mistake::MemoryOffsetIn16Bits),
     ];
 
     /// The mistake of that name.
@@ -87,5 +109,30 @@ impl Mistake {
             return word & !0x200;
         }
         word
+    }
+
+    /// Whether memory may have this length, as far as the length goes: any,
+    /// but for the mistake about long memory.
+    pub fn allows_memory(self, length: usize) -> bool {
+        self != Mistake::LongMemoryRefused || length <= LONGEST_ALLOWED
+    }
+
+    /// How many bytes an access finds in memory of this length: all of them,
+    /// but for two mistakes.
+    pub fn length_seen(self, length: usize) -> usize {
+        match self {
+            Mistake::FarBytesOutside => length.min(FIRST_FAR),
+            Mistake::MemoryLengthIn16Bits => length % IN_16_BITS,
+            _ => length,
+        }
+    }
+
+    /// Where an access looks for the byte of this number: there, but for one
+    /// mistake.
+    pub fn offset_seen(self, offset: usize) -> usize {
+        match self {
+            Mistake::MemoryOffsetIn16Bits => offset % IN_16_BITS,
+            _ => offset,
+        }
     }
 }

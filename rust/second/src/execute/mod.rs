@@ -73,7 +73,7 @@ pub fn execute_with(
 /// they need their registers.
 fn run(mistake: Mistake, settings: &Settings, word: u32, buffers: Buffers) -> Result<(), Refusal> {
     let level = checks::settings(settings)?;
-    checks::lengths(settings, &buffers)?;
+    checks::lengths(mistake, settings, &buffers)?;
     let operation = decode(mistake.word_seen(word), level)?;
     checks::switches(settings)?;
     let mut state = State::new(mistake, settings, buffers);

@@ -31,7 +31,7 @@ impl<'a> State<'a> {
         State {
             mistake,
             vector_bytes: settings.vector_bytes as usize,
-            memory: Memory::new(settings.memory_address, buffers.memory),
+            memory: Memory::new(mistake, settings.memory_address, buffers.memory),
             x: buffers.x,
             z: buffers.z,
             p: buffers.p,

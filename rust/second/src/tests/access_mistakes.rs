@@ -22,7 +22,7 @@ fn machine(base: u64, bits: &[usize]) -> Machine {
 }
 
 /// The mistaken word is done and leaves `left`.
-fn mistaken_leaves(machine: &Machine, word: u32, mistake: Mistake, left: &Machine) {
+pub fn mistaken_leaves(machine: &Machine, word: u32, mistake: Mistake, left: &Machine) {
     let mut mistaken = machine.clone();
     assert_eq!(mistaken.run_with(mistake, word), (0, 0), "{mistake:?}");
     assert!(mistaken == *left, "{mistake:?} left another state");

@@ -14,6 +14,7 @@ mod held_sets;
 mod inputs;
 mod lines;
 mod machine;
+mod memory_mistakes;
 mod mistakes;
 mod slices;
 mod words;
