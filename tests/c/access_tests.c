@@ -2,65 +2,13 @@
  * Loads and stores through sme_execute, of every element size at every vector length. What must not be written stands
  * on pages that can't be: all of it with a refusal, memory with a load, ZA with a store, vector registers always.
  */
+#include "access.h"
 #include "check.h"
-#include "machine.h"
 
 #include <string.h>
 
-/* A load or store of a slice of tile m - 1: index register 12, predicate 0, base register 1, offset register 2. */
-typedef struct access {
-    size_t m;
-    uint32_t word;
-    bool load, vertical;
-} access;
-
-static const access rows[] = {
-    {1, 0xE0020020, true, false},   {1, 0xE0220020, false, false},  {2, 0xE0420028, true, false},
-    {2, 0xE0620028, false, false},  {4, 0xE082002C, true, false},   {4, 0xE0A2002C, false, false},
-    {8, 0xE0C2002E, true, false},   {8, 0xE0E2002E, false, false},  {16, 0xE1C2002F, true, false},
-    {16, 0xE1E2002F, false, false},
-};
-
-/* What makes a row a column, and what makes base and offset register 31, which are the stack pointer and zero. */
-enum { COLUMN = 0x8000, ON_STACK = 0x1F03E0 };
-
-/* The slice number before it is taken modulo the number of slices. */
-enum { INDEX = 0x103 };
-
-static size_t elements(const machine *own, const access *how)
-{
-    return own->settings.vector_bytes / how->m;
-}
-
-/* A machine on which element 0 is at this address, by the base register. */
-static machine machine_at(uint64_t b, size_t memory_bytes, uint64_t address)
-{
-    machine made = machine_new(b, memory_bytes);
-    set_x(&made, 12, INDEX);
-    set_x(&made, 1, address);
-    set_x(&made, 2, 0);
-    return made;
-}
-
-static void set_inactive(machine *own, const access *how, size_t e)
-{
-    size_t bit = e * how->m;
-    own->p.bytes[bit / 8] = (uint8_t)(own->p.bytes[bit / 8] & ~(1u << bit % 8));
-}
-
-static bool is_active(const machine *own, const access *how, size_t e)
-{
-    size_t bit = e * how->m;
-    return own->p.bytes[bit / 8] >> bit % 8 & 1;
-}
-
-/* Where element e of the slice begins in ZA. */
-static size_t place(const machine *own, const access *how, size_t e)
-{
-    size_t slice = INDEX % elements(own, how);
-    size_t row = how->vertical ? e : slice, column = how->vertical ? slice : e;
-    return (row * how->m + how->m - 1) * own->settings.vector_bytes + column * how->m;
-}
+/* What makes base and offset register 31, which are the stack pointer and zero. */
+enum { ON_STACK = 0x1F03E0 };
 
 /* Element 0 is at this byte of memory, which may be one before it: then unsigned sums wrap to the bytes in it. */
 static void expect_done(machine *own, const access *how, uint32_t word, size_t first)
@@ -182,10 +130,8 @@ static void wrap_tests(uint64_t b, const access *how)
 void access_tests(void)
 {
     for (uint64_t b = SME_MIN_VECTOR_BYTES; b <= SME_MAX_VECTOR_BYTES; b *= 2) {
-        for (size_t i = 0; i < 2 * sizeof rows / sizeof rows[0]; i++) {
-            access how = rows[i / 2];
-            how.vertical = i % 2 == 1;
-            how.word |= how.vertical ? COLUMN : 0;
+        for (size_t i = 0; i < ACCESSES; i++) {
+            access how = access_at(i);
             done_tests(b, &how);
             no_active_tests(b, &how);
             refused_tests(b, &how);

@@ -36,6 +36,8 @@ void access_tests(void);
 void execute_tests(void);
 void word_tests(void);
 void settings_tests(void);
+void size_tests(void);
 void tile_tests(void);
+void wrapper_tests(void);
 
 #endif

@@ -1,45 +1,25 @@
-#define _DEFAULT_SOURCE
 #include "guarded.h"
+#include "pages.h"
 
-#include <stdio.h>
-#include <stdlib.h>
 #include <string.h>
 #include <sys/mman.h>
-#include <unistd.h>
 
 enum { GUARD = 0xA5, GUARD_BYTES = 64 };
 
 bool guarded_touch_front;
+size_t guarded_behind;
 
-static size_t page_size(void)
-{
-    return (size_t)sysconf(_SC_PAGESIZE);
-}
-
-static void protect(uint8_t *pages, size_t bytes, int how)
-{
-    if (mprotect(pages, bytes, how) != 0) {
-        perror("mprotect");
-        exit(2);
-    }
-}
-
-/* A forbidden page, the buffer and guard bytes, another forbidden page. */
+/* A forbidden page, the buffer and guard bytes, and behind them forbidden pages again. */
 guarded guarded_new(size_t length, uint8_t seed)
 {
     size_t page = page_size();
-    size_t room = (length + GUARD_BYTES + page - 1) / page * page;
     guarded made;
-    made.page_bytes = page + room + page;
-    made.pages = mmap(NULL, made.page_bytes, PROT_READ | PROT_WRITE, MAP_PRIVATE | MAP_ANONYMOUS, -1, 0);
-    if (made.pages == MAP_FAILED) {
-        perror("mmap");
-        exit(2);
-    }
-    memset(made.pages, GUARD, made.page_bytes);
-    protect(made.pages, page, PROT_NONE);
-    protect(made.pages + page + room, page, PROT_NONE);
-    made.bytes = made.pages + page + (guarded_touch_front ? 0 : room - length);
+    made.room = whole_pages(length + GUARD_BYTES);
+    made.page_bytes = page + made.room + whole_pages(guarded_behind) + page;
+    made.pages = pages_new(made.page_bytes, PROT_NONE);
+    pages_protect(made.pages + page, made.room, PROT_READ | PROT_WRITE);
+    memset(made.pages + page, GUARD, made.room);
+    made.bytes = made.pages + page + (guarded_touch_front ? 0 : made.room - length);
     made.length = length;
     for (size_t i = 0; i < length; i++) {
         made.bytes[i] = (uint8_t)((i * 7 + seed) % 251 + 1);
@@ -49,8 +29,7 @@ guarded guarded_new(size_t length, uint8_t seed)
 
 void guarded_read_only(const guarded *buffer)
 {
-    size_t page = page_size();
-    protect(buffer->pages + page, buffer->page_bytes - 2 * page, PROT_READ);
+    pages_protect(buffer->pages + page_size(), buffer->room, PROT_READ);
 }
 
 static bool all_guards(const uint8_t *from, const uint8_t *to)
@@ -63,9 +42,9 @@ static bool all_guards(const uint8_t *from, const uint8_t *to)
 
 bool guarded_check(const guarded *buffer)
 {
-    size_t page = page_size();
-    return all_guards(buffer->pages + page, buffer->bytes) &&
-           all_guards(buffer->bytes + buffer->length, buffer->pages + buffer->page_bytes - page);
+    const uint8_t *first = buffer->pages + page_size();
+    return all_guards(first, buffer->bytes) &&
+           all_guards(buffer->bytes + buffer->length, first + buffer->room);
 }
 
 void guarded_free(guarded *buffer)

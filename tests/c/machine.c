@@ -58,8 +58,7 @@ void set_active(machine *own, size_t predicate, size_t element_bytes, size_t ste
     }
 }
 
-/* An empty memory is lent as (NULL, 0). */
-static sme_buffers lend(const machine *own)
+sme_buffers lend(const machine *own)
 {
     sme_buffers buffers;
     buffers.x = (const uint64_t *)(const void *)own->x.bytes;
@@ -89,11 +88,15 @@ static void machine_free(machine *own)
 
 void expect(machine *own, uint32_t word, uint32_t wanted, uint64_t wanted_address)
 {
+    expect_lent(own, lend(own), word, wanted, wanted_address);
+}
+
+void expect_lent(machine *own, sme_buffers lent, uint32_t word, uint32_t wanted, uint64_t wanted_address)
+{
     guarded result = guarded_new(sizeof(uint64_t), 33);
     guarded_read_only(&own->x);
     guarded_read_only(&own->p);
-    uint32_t answer =
-        sme_settings_execute(own->settings, word, lend(own), (uint64_t *)(void *)result.bytes);
+    uint32_t answer = sme_settings_execute(own->settings, word, lent, (uint64_t *)(void *)result.bytes);
     uint64_t address;
     memcpy(&address, result.bytes, sizeof address);
     CHECK_EQUAL(answer, wanted);

@@ -29,10 +29,16 @@ void set_x(machine *own, size_t number, uint64_t value);
 /* Leaves only the elements active whose numbers are multiples of step; bits that are not looked at stay set. */
 void set_active(machine *own, size_t predicate, size_t element_bytes, size_t step);
 
+/* The buffers with their lengths; an empty memory is (NULL, 0). */
+sme_buffers lend(const machine *own);
+
 /*
  * Executes, X and P on pages that can't be written, and holds answer, address and every byte to what is wanted. The
  * machine is freed.
  */
 void expect(machine *own, uint32_t word, uint32_t wanted, uint64_t wanted_address);
+
+/* The same, with lengths or a memory that are not the machine's. */
+void expect_lent(machine *own, sme_buffers lent, uint32_t word, uint32_t wanted, uint64_t wanted_address);
 
 #endif

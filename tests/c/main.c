@@ -52,10 +52,13 @@ static void text_tests(void)
     }
 }
 
+/* First those that deliberately wrong headers and units are run on, so that each of these ends soon. */
 int main(void)
 {
+    wrapper_tests();
     for (int front = 0; front < 2; front++) {
         guarded_touch_front = front == 1;
+        size_tests();
         settings_tests();
         word_tests();
         execute_tests();

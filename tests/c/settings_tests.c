@@ -62,12 +62,4 @@ void settings_tests(void)
     CHECK_EQUAL(SME_Z_BYTES(32), 1024);
     CHECK_EQUAL(SME_P_BYTES(32), 64);
     CHECK_EQUAL(SME_ZA_BYTES(32), 1024);
-    sme_settings settings = sme_settings_new(64, 2);
-    CHECK(settings.vector_bytes == 64 && settings.level == 2);
-    CHECK(!settings.streaming && !settings.za_on && settings.memory_address == 0);
-    settings = sme_settings_with_streaming(settings, true);
-    CHECK(settings.streaming && !settings.za_on && settings.memory_address == 0);
-    settings = sme_settings_with_za(settings, true);
-    settings = sme_settings_with_memory_address(settings, 77);
-    CHECK(settings.streaming && settings.za_on && settings.memory_address == 77);
 }

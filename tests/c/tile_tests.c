@@ -96,7 +96,8 @@ static void impossible_tests(void)
 /* Counts that the array has not, or that are above sixteen, also where twice the count is a small number. */
 static void shape_tests(void)
 {
-    static const size_t counts[] = {0, 1, 2, 3, 15, 16, 17, 18, 255, 257, SIZE_MAX / 2, SIZE_MAX / 2 + 1,
+    static const size_t counts[] = {0, 1, 2, 3, 15, 16, 17, 18, 255, 257, 0x10000, 0x10001,
+                                    (size_t)1 << 32, ((size_t)1 << 32) + 1, SIZE_MAX / 2, SIZE_MAX / 2 + 1,
                                     SIZE_MAX / 2 + 2, SIZE_MAX - 1, SIZE_MAX};
     list full = list_none();
     for (uint64_t tile = 0; tile < MOST_TILES; tile++) {

@@ -147,15 +147,3 @@ fn equal_are_those_that_hold_the_same_tiles_in_the_same_order() {
     assert_eq!(one, HeldTiles::new());
     assert_eq!(format!("{one:?}"), "[]");
 }
-
-#[test]
-fn a_refusal_has_its_number_and_words() {
-    for (refusal, number) in [
-        (Refusal::OutOfRange, 8),
-        (Refusal::NoFreeTile, 13),
-        (Refusal::BadHeld, 16),
-    ] {
-        assert_eq!((refusal.number(), refusal.address()), (number, 0));
-        assert!(!refusal.to_string().is_empty());
-    }
-}

@@ -1,0 +1,138 @@
+//! Refusals: the number, the address and the words of each, and those that calls give.
+
+use sme_move::{decode, encode, HeldTiles, Refusal, Settings, State, Tile};
+use sme_move::{Direction, ElementSize, Operation};
+
+/// Every refusal but the one that carries an address, with its number and its words.
+const WITHOUT_ADDRESS: [(Refusal, u32, &str); 9] = [
+    (
+        Refusal::BadSettings,
+        1,
+        "the vector length or the level is not allowed",
+    ),
+    (Refusal::BadLengths, 2, "a buffer has the wrong length"),
+    (
+        Refusal::Undecodable,
+        3,
+        "the word is no instruction of this level",
+    ),
+    (Refusal::StreamingOff, 4, "streaming mode is off"),
+    (Refusal::ZaOff, 5, "ZA is off"),
+    (
+        Refusal::StackMisaligned,
+        6,
+        "the stack pointer is no multiple of 16",
+    ),
+    (
+        Refusal::OutOfRange,
+        8,
+        "no word encodes this operation, or no element has so many bytes",
+    ),
+    (Refusal::NoFreeTile, 13, "no tile of this size is free"),
+    (
+        Refusal::BadHeld,
+        16,
+        "a held tile does not exist, two share a byte, or the tile is not held",
+    ),
+];
+
+/// Moves vector register 0 to a row of the byte tile, and stores row 0 of it by registers 1 and 2, or by the stack
+/// pointer alone.
+const MOVE: u32 = 0xC000_0000;
+const STORE: u32 = 0xE022_0020;
+const STORE_ON_STACK: u32 = 0xE03F_03E0;
+
+#[test]
+fn a_refusal_has_its_number_and_words_and_no_address() {
+    for (refusal, number, words) in WITHOUT_ADDRESS {
+        assert_eq!(refusal.number(), number);
+        assert_eq!(refusal.address(), 0, "{refusal:?}");
+        assert_eq!(refusal.to_string(), words);
+    }
+}
+
+#[test]
+fn outside_memory_has_its_address() {
+    for (address, digits) in [
+        (0, "0000000000000000"),
+        (1, "0000000000000001"),
+        (0x1_0000_002A, "000000010000002A"),
+        (0xFEDC_BA98_7654_3210, "FEDCBA9876543210"),
+        (u64::MAX, "FFFFFFFFFFFFFFFF"),
+    ] {
+        let refusal = Refusal::OutsideMemory { address };
+        assert_eq!((refusal.number(), refusal.address()), (7, address));
+        let words = format!("address {digits} is not in memory");
+        assert_eq!(refusal.to_string(), words);
+    }
+}
+
+fn settings() -> Settings {
+    let settings = Settings::new(16, 3).expect("these are allowed");
+    settings.with_streaming(true).with_za(true)
+}
+
+/// What a word is refused with, every element being active, registers 1 and 31 at this address and register 2 at 4.
+fn refusal_of(settings: Settings, word: u32, address: u64) -> Refusal {
+    let mut state = State::new(self::settings()).expect("these are allowed");
+    state.p.fill(0xFF);
+    (state.x[1], state.x[2], state.x[31]) = (address, 4, address);
+    let refused = state.execute(settings, word, &mut [0; 64]);
+    refused.expect_err("it is refused")
+}
+
+/// Each refusal that executing a word can give, from the archive: number and address are those of its answer.
+#[test]
+fn executing_gives_number_and_address() {
+    let mut bad = settings();
+    bad.level = 4;
+    let off = settings().with_streaming(false).with_za(false);
+    let high = settings().with_memory_address(u64::MAX - 62);
+    let other = Settings::new(32, 3).expect("these are allowed");
+    for (settings, word, start, number, address) in [
+        (bad, MOVE, 0, 1, 0),
+        (high, MOVE, 0, 2, 0),
+        (other, MOVE, 0, 2, 0),
+        (settings(), 0xC000_0010, 0, 3, 0),
+        (off, MOVE, 0, 4, 0),
+        (off.with_streaming(true), MOVE, 0, 5, 0),
+        (settings(), STORE_ON_STACK, 8, 6, 0),
+        (settings(), STORE_ON_STACK, 64, 7, 64),
+        (settings(), STORE, 45, 7, 64),
+        (settings(), STORE, u64::MAX - 7, 7, u64::MAX - 3),
+    ] {
+        let refusal = refusal_of(settings, word, start);
+        assert_eq!((refusal.number(), refusal.address()), (number, address));
+    }
+}
+
+/// Those of the other calls.
+#[test]
+fn other_calls_give_numbers_without_an_address() {
+    let wide = Operation::MovazFromTile {
+        size: ElementSize::Bits8,
+        direction: Direction::Horizontal,
+        tile: 1,
+        offset: 0,
+        index: 12,
+        vector: 0,
+    };
+    let mut held = HeldTiles::new();
+    held.take(1).expect("it is free");
+    let tile = Tile {
+        element_bytes: 2,
+        number: 0,
+    };
+    for (refused, number) in [
+        (Settings::new(48, 3).err(), 1),
+        (decode(MOVE, 4).err(), 1),
+        (decode(MOVE, 0).err(), 3),
+        (encode(wide).err(), 8),
+        (held.take(3).err(), 8),
+        (held.take(2).err(), 13),
+        (held.give_up(tile).err(), 16),
+    ] {
+        let refusal = refused.expect("it is refused");
+        assert_eq!((refusal.number(), refusal.address()), (number, 0));
+    }
+}

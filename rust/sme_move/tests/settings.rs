@@ -1,0 +1,84 @@
+//! Settings as a record: each item changed from every state of the others, and what new ones hold.
+
+use sme_move::{Refusal, Settings};
+
+const VECTOR_LENGTHS: [u64; 5] = [16, 32, 64, 128, 256];
+
+/// Settings with these switches, and no other item as new settings have it.
+fn from(streaming: bool, za: bool) -> Settings {
+    let mut settings = Settings::new(64, 2).expect("these are allowed");
+    settings.streaming = streaming;
+    settings.za = za;
+    settings.memory_address = 0xFEDC_BA98_7654_3210;
+    settings
+}
+
+#[test]
+fn one_item_is_changed_and_the_others_stay() {
+    const BOTH: [bool; 2] = [false, true];
+    for (streaming, za) in BOTH.into_iter().flat_map(|one| BOTH.map(|two| (one, two))) {
+        let before = from(streaming, za);
+        for on in BOTH {
+            assert_eq!(before.with_streaming(on), from(on, za));
+            assert_eq!(before.with_za(on), from(streaming, on));
+        }
+        for address in [0, 1, 2, 64, 77, 1 << 32, u64::MAX] {
+            let mut wanted = before;
+            wanted.memory_address = address;
+            assert_eq!(before.with_memory_address(address), wanted);
+        }
+    }
+}
+
+/// Numbers that are not allowed stay as they are too.
+#[test]
+fn numbers_that_are_not_allowed_stay() {
+    let mut before = from(true, false);
+    (before.vector_bytes, before.level) = (u64::MAX, 9);
+    for changed in [
+        before.with_streaming(false),
+        before.with_za(true),
+        before.with_memory_address(3),
+    ] {
+        assert_eq!((changed.vector_bytes, changed.level), (u64::MAX, 9));
+        assert_eq!(changed.check(), Err(Refusal::BadSettings));
+    }
+}
+
+#[test]
+fn new_settings_are_off_and_at_address_0() {
+    for bytes in VECTOR_LENGTHS {
+        for level in 0..=3 {
+            let new = Settings::new(bytes, level).expect("these are allowed");
+            assert_eq!((new.vector_bytes, new.level), (bytes, level));
+            assert_eq!((new.streaming, new.za), (false, false));
+            assert_eq!(new.memory_address, 0);
+        }
+        for level in [4, 256, 1 << 32, u64::MAX] {
+            assert_eq!(Settings::new(bytes, level), Err(Refusal::BadSettings));
+        }
+    }
+    for bytes in [0, 8, 15, 17, 48, 512, (1 << 32) + 16, u64::MAX] {
+        assert_eq!(Settings::new(bytes, 3), Err(Refusal::BadSettings));
+    }
+}
+
+/// Settings are equal if every item is: otherwise the tests above would show little.
+#[test]
+fn each_item_counts() {
+    let own = from(true, false);
+    let mut longer = own;
+    longer.vector_bytes = 128;
+    let mut higher = own;
+    higher.level = 3;
+    assert_eq!(own, from(true, false));
+    for other in [
+        longer,
+        higher,
+        own.with_streaming(false),
+        own.with_za(true),
+        own.with_memory_address(0),
+    ] {
+        assert_ne!(own, other);
+    }
+}

@@ -1,0 +1,108 @@
+/*
+ * What the header itself does, without the archive: settings as a record, each item changed from every state of the
+ * others, and the words of each answer.
+ */
+#include "check.h"
+#include "sme_move.h"
+
+#include <string.h>
+
+static void expect_settings(sme_settings found, sme_settings wanted)
+{
+    CHECK_EQUAL(found.vector_bytes, wanted.vector_bytes);
+    CHECK_EQUAL(found.level, wanted.level);
+    CHECK_EQUAL(found.streaming, wanted.streaming);
+    CHECK_EQUAL(found.za_on, wanted.za_on);
+    CHECK_EQUAL(found.memory_address, wanted.memory_address);
+}
+
+static const uint64_t numbers[] = {0, 1, 2, 3, 77, 128, UINT64_C(1) << 32, UINT64_MAX};
+
+enum { NUMBERS = sizeof numbers / sizeof numbers[0] };
+
+/* Any numbers, allowed or not: they are only kept. */
+static void new_tests(void)
+{
+    for (size_t i = 0; i < NUMBERS; i++) {
+        for (size_t j = 0; j < NUMBERS; j++) {
+            const sme_settings wanted = {.vector_bytes = numbers[i], .level = numbers[j], .streaming = false,
+                                         .za_on = false, .memory_address = 0};
+            expect_settings(sme_settings_new(numbers[i], numbers[j]), wanted);
+        }
+    }
+}
+
+/* Each item changed in these settings, to what it was and to what it was not; all others stay. */
+static void with_one(const sme_settings from)
+{
+    for (int on = 0; on < 2; on++) {
+        sme_settings wanted = from;
+        wanted.streaming = on == 1;
+        expect_settings(sme_settings_with_streaming(from, on == 1), wanted);
+        wanted = from;
+        wanted.za_on = on == 1;
+        expect_settings(sme_settings_with_za(from, on == 1), wanted);
+    }
+    for (size_t i = 0; i < NUMBERS; i++) {
+        sme_settings wanted = from;
+        wanted.memory_address = numbers[i];
+        expect_settings(sme_settings_with_memory_address(from, numbers[i]), wanted);
+    }
+}
+
+/* From both states of each switch, with no other item as sme_settings_new makes it. */
+static void with_tests(void)
+{
+    for (int switches = 0; switches < 4; switches++) {
+        with_one((sme_settings){.vector_bytes = 64, .level = 2, .streaming = switches % 2 == 1,
+                                .za_on = switches / 2 == 1, .memory_address = UINT64_C(0xFEDCBA9876543210)});
+        with_one((sme_settings){.vector_bytes = UINT64_MAX, .level = 9, .streaming = switches % 2 == 1,
+                                .za_on = switches / 2 == 1, .memory_address = 1});
+    }
+}
+
+/* By number, as hosts get it. */
+static const char *const texts[ANSWERS] = {
+    [0] = "done",
+    [1] = "the vector length or the level is not allowed",
+    [2] = "a buffer has the wrong length, or memory ends above 2^64",
+    [3] = "the word is no instruction of this level",
+    [4] = "streaming mode is off",
+    [5] = "ZA is off",
+    [6] = "the stack pointer is no multiple of 16",
+    [7] = "an address is not in memory",
+    [8] = "no word encodes this operation, or no element has so many bytes",
+    [13] = "no tile of this size is free",
+    [16] = "a held tile does not exist, two share a byte, or the tile is not held",
+};
+
+static void expect_text(uint32_t answer, const char *wanted)
+{
+    const char *found = sme_answer_text(answer);
+    if (strcmp(found, wanted) != 0) {
+        fprintf(stderr, "%s:%d: answer %u is '%s', should be '%s'\n", __FILE__, __LINE__, (unsigned)answer, found,
+                wanted);
+        exit(1);
+    }
+}
+
+static void text_tests(void)
+{
+    static const char none[] = "no answer of this version";
+    for (uint32_t answer = 0; answer < ANSWERS; answer++) {
+        expect_text(answer, texts[answer] != NULL ? texts[answer] : none);
+    }
+    for (uint32_t bit = 1 << 5; bit != 0; bit <<= 1) {
+        expect_text(bit, none);
+        expect_text(bit | SME_ZA_OFF, none);
+    }
+    expect_text(ANSWERS, none);
+    expect_text(UINT32_MAX, none);
+}
+
+void wrapper_tests(void)
+{
+    new_tests();
+    with_tests();
+    text_tests();
+}

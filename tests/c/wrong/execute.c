@@ -1,0 +1,230 @@
+/*
+ * Deliberately wrong units: linked between the tests and the archive (the linker's --wrap), this hands each call of
+ * sme_execute on with one mistake about sizes, which the environment variable WRONG names. The tests must notice each.
+ */
+#include "sme_move.h"
+
+#include <stdio.h>
+#include <stdlib.h>
+#include <string.h>
+
+#define IN_16_BITS UINT64_C(0xFFFF)
+#define IN_32_BITS UINT64_C(0xFFFFFFFF)
+
+/* The longest memory that the mistake about long memory lets pass. */
+enum { LONGEST_ALLOWED = 4096 };
+
+enum what {
+    /* nothing is wrong: this file by itself makes no test fail */
+    NONE,
+    /* the length of one buffer is compared in its low bits alone, that of X also by its bytes */
+    X,
+    X_BYTES,
+    Z,
+    P,
+    ZA,
+    /* memory has so many bytes as the low bits of its length say */
+    MEMORY_LENGTH,
+    /* an element is looked for in memory where the low bits of element 0's place say */
+    MEMORY_OFFSET,
+    /* the same of accesses alone that are not wholly in memory, of stores, and of stores beside their right place */
+    END_OFFSET,
+    STORE_OFFSET,
+    STORE_TWICE,
+    /* whether memory ends above 2^64 is worked out with the low bits of its length */
+    MEMORY_END,
+    /* memory of more than 4,096 bytes is refused with 2 */
+    LONG_MEMORY
+};
+
+typedef struct mistake {
+    const char *name;
+    enum what what;
+    uint64_t bits;
+} mistake;
+
+static const mistake mistakes[] = {
+    {"None", NONE, 0},
+    {"XIn16Bits", X, IN_16_BITS},
+    {"XIn32Bits", X, IN_32_BITS},
+    {"XBytesIn16Bits", X_BYTES, IN_16_BITS},
+    {"XBytesIn32Bits", X_BYTES, IN_32_BITS},
+    {"ZIn16Bits", Z, IN_16_BITS},
+    {"ZIn32Bits", Z, IN_32_BITS},
+    {"PIn16Bits", P, IN_16_BITS},
+    {"PIn32Bits", P, IN_32_BITS},
+    {"ZaIn16Bits", ZA, IN_16_BITS},
+    {"ZaIn32Bits", ZA, IN_32_BITS},
+    {"MemoryLengthIn16Bits", MEMORY_LENGTH, IN_16_BITS},
+    {"MemoryLengthIn32Bits", MEMORY_LENGTH, IN_32_BITS},
+    {"MemoryOffsetIn16Bits", MEMORY_OFFSET, IN_16_BITS},
+    {"MemoryOffsetIn32Bits", MEMORY_OFFSET, IN_32_BITS},
+    {"EndOffsetIn16Bits", END_OFFSET, IN_16_BITS},
+    {"EndOffsetIn32Bits", END_OFFSET, IN_32_BITS},
+    {"StoreOffsetIn16Bits", STORE_OFFSET, IN_16_BITS},
+    {"StoreOffsetIn32Bits", STORE_OFFSET, IN_32_BITS},
+    {"StoreTwiceIn16Bits", STORE_TWICE, IN_16_BITS},
+    {"StoreTwiceIn32Bits", STORE_TWICE, IN_32_BITS},
+    {"MemoryEndIn32Bits", MEMORY_END, IN_32_BITS},
+    {"LongMemoryRefused", LONG_MEMORY, 0},
+};
+
+/* What a call hands over. */
+typedef struct call {
+    sme_settings settings;
+    uint32_t word;
+    sme_buffers lent;
+    uint64_t *address;
+} call;
+
+static const mistake *chosen(void)
+{
+    const char *name = getenv("WRONG");
+    for (size_t i = 0; name != NULL && i < sizeof mistakes / sizeof mistakes[0]; i++) {
+        if (strcmp(name, mistakes[i].name) == 0) {
+            return &mistakes[i];
+        }
+    }
+    fprintf(stderr, "WRONG names no mistake\n");
+    exit(2);
+}
+
+/* A length with the low bits of the right one passes for it. */
+static void compare_low(size_t *length, size_t right, uint64_t bits)
+{
+    if ((*length & bits) == (right & bits)) {
+        *length = right;
+    }
+}
+
+static void compare_bytes_of_x(size_t *count, uint64_t bits)
+{
+    size_t bytes = *count * sizeof(uint64_t);
+    compare_low(&bytes, SME_X_COUNT * sizeof(uint64_t), bits);
+    *count = bytes / sizeof(uint64_t);
+}
+
+static bool is_access(uint32_t word)
+{
+    return word >> 25 == 0x70;
+}
+
+static bool is_store(uint32_t word)
+{
+    return is_access(word) && (word >> 21 & 1) == 1;
+}
+
+/*
+ * The place of element 0 in memory, or one that memory has not. The tests that have long memory have zero in the offset
+ * register.
+ */
+static uint64_t place_of(const call *own)
+{
+    if (!is_access(own->word) || own->lent.x_count != SME_X_COUNT) {
+        return UINT64_MAX;
+    }
+    return own->lent.x[own->word >> 5 & 31] - own->settings.memory_address;
+}
+
+static void misplace(call *own, uint64_t bits)
+{
+    uint64_t place = place_of(own);
+    if (place < own->lent.memory_bytes) {
+        own->settings.memory_address += place & ~bits;
+        own->lent.memory_bytes -= place & ~bits;
+    }
+}
+
+/* Memory that ends above 2^64, and would not with fewer bytes, is taken to end there. */
+static void end_low(const sme_settings *settings, sme_buffers *lent, uint64_t bits)
+{
+    uint64_t room = UINT64_C(0) - settings->memory_address;
+    if (room != 0 && lent->memory_bytes > room && (lent->memory_bytes & bits) <= room) {
+        lent->memory_bytes = room;
+    }
+}
+
+static void spoil(const mistake *wrong, call *own)
+{
+    uint64_t b = own->settings.vector_bytes, bits = wrong->bits;
+    sme_buffers *lent = &own->lent;
+    switch (wrong->what) {
+    case NONE:
+        break;
+    case X:
+        compare_low(&lent->x_count, SME_X_COUNT, bits);
+        break;
+    case X_BYTES:
+        compare_bytes_of_x(&lent->x_count, bits);
+        break;
+    case Z:
+        compare_low(&lent->z_bytes, SME_Z_BYTES(b), bits);
+        break;
+    case P:
+        compare_low(&lent->p_bytes, SME_P_BYTES(b), bits);
+        break;
+    case ZA:
+        compare_low(&lent->za_bytes, SME_ZA_BYTES(b), bits);
+        break;
+    case MEMORY_LENGTH:
+        lent->memory_bytes &= bits;
+        break;
+    case MEMORY_OFFSET:
+        misplace(own, bits);
+        break;
+    case END_OFFSET:
+        if (place_of(own) + b > lent->memory_bytes) {
+            misplace(own, bits);
+        }
+        break;
+    case STORE_OFFSET:
+    case STORE_TWICE:
+        if (is_store(own->word)) {
+            misplace(own, bits);
+        }
+        break;
+    case MEMORY_END:
+        end_low(&own->settings, lent, bits);
+        break;
+    case LONG_MEMORY:
+        /* no vector length has an empty X */
+        lent->x_count = lent->memory_bytes > LONGEST_ALLOWED ? 0 : lent->x_count;
+        break;
+    }
+}
+
+/* What the linker makes of the tests' calls, and how it lets this file call the archive. */
+uint32_t __wrap_sme_execute(uint64_t vector_bytes, uint64_t level, bool streaming, bool za_on,
+                            uint64_t memory_address, uint32_t word, const uint64_t *x, size_t x_count, uint8_t *z,
+                            size_t z_bytes, const uint8_t *p, size_t p_bytes, uint8_t *za, size_t za_bytes,
+                            uint8_t *memory, size_t memory_bytes, uint64_t *address);
+uint32_t __real_sme_execute(uint64_t vector_bytes, uint64_t level, bool streaming, bool za_on,
+                            uint64_t memory_address, uint32_t word, const uint64_t *x, size_t x_count, uint8_t *z,
+                            size_t z_bytes, const uint8_t *p, size_t p_bytes, uint8_t *za, size_t za_bytes,
+                            uint8_t *memory, size_t memory_bytes, uint64_t *address);
+
+static uint32_t hand_on(call own)
+{
+    const sme_settings *settings = &own.settings;
+    const sme_buffers *lent = &own.lent;
+    return __real_sme_execute(settings->vector_bytes, settings->level, settings->streaming, settings->za_on,
+                              settings->memory_address, own.word, lent->x, lent->x_count, lent->z, lent->z_bytes,
+                              lent->p, lent->p_bytes, lent->za, lent->za_bytes, lent->memory, lent->memory_bytes,
+                              own.address);
+}
+
+uint32_t __wrap_sme_execute(uint64_t vector_bytes, uint64_t level, bool streaming, bool za_on,
+                            uint64_t memory_address, uint32_t word, const uint64_t *x, size_t x_count, uint8_t *z,
+                            size_t z_bytes, const uint8_t *p, size_t p_bytes, uint8_t *za, size_t za_bytes,
+                            uint8_t *memory, size_t memory_bytes, uint64_t *address)
+{
+    const mistake *wrong = chosen();
+    const call right = {{vector_bytes, level, streaming, za_on, memory_address},
+                        word,
+                        {x, x_count, z, z_bytes, p, p_bytes, za, za_bytes, memory, memory_bytes},
+                        address};
+    call own = right;
+    spoil(wrong, &own);
+    uint32_t answer = hand_on(own);
+    return wrong->what == STORE_TWICE && is_store(word) ? hand_on(right) : answer;
+}
