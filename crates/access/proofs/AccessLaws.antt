@@ -230,7 +230,7 @@ module _ (at : ℕ → ℕ) (on : ℕ → Bool) (val : ℕ → ℕ) (l : List �
 pub vector-byte : (on : ℕ → Bool) (val : ℕ → ℕ) (n long : ℕ) {d : List ℕ} → d ≡ scatter (onwards 0) on val n (replicate long 0) → n ≤ long → (k : ℕ) → k < n → getD d (0 + k) 0 ≡ cond (on k) (val k) 0
 vector-byte on val n long q h k w =
     rw q (
-    getD-scatter (onwards 0) on val n (replicate long 0) k w (rw (length-replicate {A = ℕ} long 0) (omega arith)) (λ j v ne e. ne (omega arith))
+    getD-scatter (onwards 0) on val n (replicate long 0) k w (rw (length-replicate {A = ℕ} long 0) (omega arith)) (λ j v y ne e. ne (omega arith))
     ∙ ap (cond (on k) (val k)) (getD-replicate {A = ℕ} long (0 + k) 0 0 (omega arith)))
 
 -- ---- what a load or store relies on, for elements of m bytes

@@ -1,14 +1,22 @@
 -- Laws of specs/Least.antt, for any test.
 -- Assumes nothing.
 use Prim.Native.Nat.{ℕ, zero, suc, _+_, _<_, _≤_}
-use mathlib.Core.Path.{_≡_, refl}
-use mathlib.Core.Bool.{Bool, true, false, cond}
+use mathlib.Core.Path.{_≡_, refl, sym, _∙_}
+use mathlib.Core.Bool.{Bool, true, false, cond, true≢false, false≢true}
 use mathlib.Core.Option.{Option, none, some, Option·some-injective}
 use native.Mathlib.Nat.{le-antisymm}
 use native.Mathlib.Numerals.{add-one}
 use native.Mathlib.Decide.{ℕ-discrete}
 use native.Mathlib.Omega.{arith}
-use Rattle.general.specs.Least.{orElse, least}
+use Rattle.general.specs.Least.{orElse, least, isSome}
+
+-- there is none, or there is one
+pub none-some : {A : Type 0} {a : A} → none ≡ some a → ⊥
+none-some e = let z : _≡_ {A = ℕ} 0 1 = cc in omega arith
+
+pub is-some : (o : Option ℕ) → isSome o ≡ true → (k : ℕ) × (o ≡ some k)
+is-some (some k) e = (k, refl)
+is-some none e = absurd (false≢true e)
 
 module _ (f : ℕ → Bool) where
   pub least-zero : least f 0 ≡ none
@@ -65,3 +73,11 @@ module _ (f : ℕ → Bool) where
           let w = Option·some-injective n k e in
           (omega arith, rw (← w) h, λ j v. least-none n q j (omega arith))
       go none q false h e ih = let z : _≡_ {A = ℕ} 0 1 = cc in absurd (omega arith)
+
+  -- a test that passes somewhere has a first place where it does
+  pub some-least : (n k : ℕ) → k < n → f k ≡ true → isSome (least f n) ≡ true
+  some-least n k h y = go (least f n) refl
+    where
+      go : (o : Option ℕ) → least f n ≡ o → isSome o ≡ true
+      go (some j) e = refl
+      go none e = absurd (true≢false (sym y ∙ least-none n e k h))

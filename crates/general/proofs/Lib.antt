@@ -1,4 +1,6 @@
+pub mod Examples
 pub mod BoolLaws
+pub mod DeterminedLaws
 pub mod LeastLaws
 pub mod ScatterLaws
 pub mod PlaceLaws

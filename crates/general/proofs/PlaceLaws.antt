@@ -1,15 +1,14 @@
 -- Laws of specs/Places.antt, for any places and values: what every effect has because it is data.
 -- Assumes nothing.
 use Prim.Native.Nat.{ℕ, zero, suc, _<_}
-use mathlib.Core.Path.{_≡_, refl, _∙_}
-use mathlib.Core.Bool.{Bool, true, false}
+use mathlib.Core.Path.{_≡_, refl}
+use mathlib.Core.Bool.{true, false}
 use mathlib.Core.List.{List}
 use native.Mathlib.Omega.{arith}
 use lib.ListN.{length, getD}
-use lib.Seq.{getD-set-other}
-use Rattle.general.specs.Scatter.{setIf, scatter}
+use Rattle.general.specs.Scatter.{scatter}
 use Rattle.general.specs.Places.{Places, written, Idle}
-use Rattle.general.proofs.ScatterLaws.{length-scatter}
+use Rattle.general.proofs.ScatterLaws.{length-scatter, getD-scatter-other}
 
 -- a buffer keeps its length
 pub written-length : (q : Places) (val : ℕ → ℕ) (l : List ℕ) → length (written q val l) ≡ length l
@@ -26,13 +25,4 @@ written-idle q val l h = go (q .count) h
 
 -- a byte that is none of the places that are written stays
 pub written-other : (q : Places) (val : ℕ → ℕ) (l : List ℕ) (i : ℕ) → ((k : ℕ) → k < q .count → q .on k ≡ true → i ≡ q .at k → ⊥) → getD (written q val l) i 0 ≡ getD l i 0
-unfolding scatter
-written-other q val l i h = go (q .count) h
-  where
-    step : (b : Bool) (m : List ℕ) (j v : ℕ) → (b ≡ true → i ≡ j → ⊥) → getD (setIf b m j v) i 0 ≡ getD m i 0
-    step true m j v h = getD-set-other m j i v 0 (h refl)
-    step false m j v h = refl
-
-    go : (n : ℕ) → ((k : ℕ) → k < n → q .on k ≡ true → i ≡ q .at k → ⊥) → getD (scatter (q .at) (q .on) val n l) i 0 ≡ getD l i 0
-    go zero h = refl
-    go (suc n) h = step (q .on n) _ (q .at n) (val n) (h n (omega arith)) ∙ go n (λ k w. h k (omega arith))
+written-other q val l i h = getD-scatter-other (q .at) (q .on) val (q .count) l i h

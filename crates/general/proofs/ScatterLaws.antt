@@ -16,8 +16,8 @@ pub length-setIf : (b : Bool) (l : List ℕ) (i v : ℕ) → length (setIf b l i
 length-setIf true l i v = length-set l i v
 length-setIf false l i v = refl
 
-pub getD-setIf-other : (b : Bool) (l : List ℕ) (i v j : ℕ) → (j ≡ i → ⊥) → getD (setIf b l i v) j 0 ≡ getD l j 0
-getD-setIf-other true l i v j h = getD-set-other l i j v 0 h
+pub getD-setIf-other : (b : Bool) (l : List ℕ) (i v j : ℕ) → (b ≡ true → j ≡ i → ⊥) → getD (setIf b l i v) j 0 ≡ getD l j 0
+getD-setIf-other true l i v j h = getD-set-other l i j v 0 (h refl)
 getD-setIf-other false l i v j h = refl
 
 pub getD-setIf-same : (b : Bool) (l : List ℕ) (i v : ℕ) → i < length l → getD (setIf b l i v) i 0 ≡ cond b v (getD l i 0)
@@ -30,16 +30,16 @@ module _ (at : ℕ → ℕ) (on : ℕ → Bool) (val : ℕ → ℕ) where
   length-scatter zero l = refl
   length-scatter (suc k) l = length-setIf (on k) (scatter at on val k l) (at k) (val k) ∙ length-scatter k l
 
-  -- a byte that none of the places is stays
-  pub getD-scatter-other : (n : ℕ) (l : List ℕ) (p : ℕ) → ((k : ℕ) → k < n → p ≡ at k → ⊥) → getD (scatter at on val n l) p 0 ≡ getD l p 0
+  -- a byte that is none of the places that are on stays
+  pub getD-scatter-other : (n : ℕ) (l : List ℕ) (p : ℕ) → ((k : ℕ) → k < n → on k ≡ true → p ≡ at k → ⊥) → getD (scatter at on val n l) p 0 ≡ getD l p 0
   unfolding scatter
   getD-scatter-other zero l p h = refl
   getD-scatter-other (suc k) l p h =
       getD-setIf-other (on k) (scatter at on val k l) (at k) (val k) p (h k (omega arith))
       ∙ getD-scatter-other k l p (λ j w. h j (omega arith))
 
-  -- a byte at one of the places, where no two below n are the same
-  pub getD-scatter : (n : ℕ) (l : List ℕ) (k : ℕ) → k < n → at k < length l → ((j : ℕ) → j < n → (j ≡ k → ⊥) → at k ≡ at j → ⊥) → getD (scatter at on val n l) (at k) 0 ≡ cond (on k) (val k) (getD l (at k) 0)
+  -- a byte at one of the places, where no other below n that is on is the same
+  pub getD-scatter : (n : ℕ) (l : List ℕ) (k : ℕ) → k < n → at k < length l → ((j : ℕ) → j < n → on j ≡ true → (j ≡ k → ⊥) → at k ≡ at j → ⊥) → getD (scatter at on val n l) (at k) 0 ≡ cond (on k) (val k) (getD l (at k) 0)
   unfolding scatter
   getD-scatter zero l k h b inj = absurd (omega arith)
   getD-scatter (suc n) l k h b inj =
@@ -49,10 +49,10 @@ module _ (at : ℕ → ℕ) (on : ℕ → Bool) (val : ℕ → ℕ) where
       go ih (yes e) =
           rw e (
           getD-setIf-same (on k) (scatter at on val k l) (at k) (val k) (rw (length-scatter k l) b)
-          ∙ ap (cond (on k) (val k)) (getD-scatter-other k l (at k) (λ j w. inj j (omega arith) (omega arith)))
+          ∙ ap (cond (on k) (val k)) (getD-scatter-other k l (at k) (λ j w y. inj j (omega arith) y (omega arith)))
           )
       go ih (no ne) =
-          getD-setIf-other (on n) (scatter at on val n l) (at n) (val n) (at k) (inj n (omega arith) ne)
+          getD-setIf-other (on n) (scatter at on val n l) (at n) (val n) (at k) (λ y. inj n (omega arith) y ne)
           ∙ ih (omega arith)
 
   -- places at which the test fails are passed over

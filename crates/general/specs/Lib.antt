@@ -2,3 +2,5 @@
 pub mod Least
 pub mod Scatter
 pub mod Places
+pub mod Determined
+pub mod Examples

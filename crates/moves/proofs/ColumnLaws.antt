@@ -72,4 +72,4 @@ module _ (base step m : ℕ) (some : 0 < m) (apart : m ≤ step) where
   pub cleared-later : (e i : ℕ) (l d : List ℕ) → i < m → d ≡ scatter (strided base step m) all zeros (e * m) l → getD l (strided base step m (e * m + i)) 0 ≡ getD d (base + e * step + i) 0
   cleared-later e i l d h q =
       ap (λ (k : ℕ). getD l k 0) (strided-element base step m e i h)
-      ∙ rw q (sym (getD-scatter-other (strided base step m) all zeros (e * m) l (base + e * step + i) (λ k w r. strided-differ e i k w r)))
+      ∙ rw q (sym (getD-scatter-other (strided base step m) all zeros (e * m) l (base + e * step + i) (λ k w y r. strided-differ e i k w r)))

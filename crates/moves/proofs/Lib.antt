@@ -2,4 +2,3 @@ pub mod BlockLaws
 pub mod PartLaws
 mod MaskLaws
 pub mod ColumnLaws
-mod GroupLaws

@@ -1,23 +1,26 @@
 -- Each theorem of specs/Bytes.antt and Claims.antt, and the worked examples first: a definition that they refuse is refused by them.
 -- Assumes nothing.
 use Prim.Native.Nat.{ℕ, _<_, _≤_}
-use mathlib.Core.Path.{_≡_, refl, sym, ap, _∙_}
-use mathlib.Core.Bool.{true, false}
-use mathlib.Core.List.{List}
+use mathlib.Core.Path.{_≡_, refl, sym, ap, _∙_, subst}
+use mathlib.Core.Bool.{Bool, true, false, cond, not, _&&_}
+use mathlib.Core.List.{List, [], _∷_}
 use mathlib.Core.Logic.{_⊎_, inl, inr}
 use mathlib.Core.Option.{Option, none, some}
 use native.Mathlib.Omega.{arith}
 use lib.ListN.{length}
 use lib.Seq.{length-take-le}
 use borrow.Author.Tests.{le-leb}
+use Rattle.settings.specs.Answer.{done, outOfRange, noFreeTile, badHeld}
 use Rattle.settings.specs.Settings.{isVectorLength}
 use Rattle.general.proofs.BoolLaws.{and-both, by-test, refute, clash}
-use Rattle.general.specs.Least.{least}
+use Rattle.general.specs.Determined.{IsOneOf}
+use Rattle.general.proofs.DeterminedLaws.{equal-determines, one-of-test}
+use Rattle.general.specs.Least.{least, isSome}
 use Rattle.general.proofs.LeastLaws.{least-some, least-none, least-never}
 use Rattle.planner.specs.Tile.{tileOf, isSize, shares, isFree, isValid, lowestFree, isAmong, without}
-use Rattle.planner.specs.Held.{heldTiles, heldFrom, validHeld, joined, refused, takeOf, leaving, giveUpOf}
+use Rattle.planner.specs.Held.{answerNumber, heldTiles, heldFrom, validHeld, joined, refused, takeOf, TakesOne, leaving, giveUpOf, GivesUpOne}
 use Rattle.planner.specs.Bytes.{Vectors, TilesHalve, SharesBytes, tileAt, Apart, ValidIsApart, SharedBy}
-use Rattle.planner.specs.Claims.{Sixteen, ValidHeldIsApart, TakingAnswers, Takes, TakingTakes, Full, NoFreeIsFull, GivingUpAnswers, GivingUpGives, Undone, TakingUndone, GivenUpRetaken, shownHeld, Shown}
+use Rattle.planner.specs.Claims.{Sixteen, ValidHeldIsApart, TakingAnswers, Takes, TakingTakes, Full, NoFreeIsFull, GivingUpAnswers, GivingUpGives, Undone, TakingUndone, GivenUpRetaken, HeldDetermines, shownHeld, Shown}
 use Rattle.planner.specs.Examples.{TakingExamplesHold}
 use Rattle.planner.specs.declared.tile.Tile.{Tile}
 use Rattle.planner.specs.declared.held.Held.{Held}
@@ -31,7 +34,7 @@ use Rattle.planner.proofs.ByteLaws.{shared-byte, byte-shared}
 use Rattle.planner.proofs.TileLaws.{Exists, tile-exists, exists-tile, shares-sym, same-own}
 use Rattle.planner.proofs.HeldLaws.{valid-held}
 use Rattle.planner.proofs.ListLaws.{free-at, free-not, valid-exist, valid-differ, valid-all, among-last, among-at, among-tile, free-unheld, without-parts, valid-without, free-again}
-use Rattle.planner.proofs.RoomLaws.{without-length, without-last, unheld-same, take-size, take-held, take-none, take-some, give-up-done, give-up-invalid, give-up-unheld}
+use Rattle.planner.proofs.RoomLaws.{takes-one, gives-up-one, without-length, without-last, unheld-same, take-size, take-held, take-none, take-some, give-up-done, give-up-invalid, give-up-unheld}
 use Rattle.planner.proofs.AnswerLaws.{Searched, TakeView, size-bad, held-bad, none-free, one-free, take-view, take-found, take-full, Joins, joins, Among, give-up-among, held-again}
 
 pub taking-examples-hold : TakingExamplesHold
@@ -235,6 +238,34 @@ given-up-retaken h x sixteen e =
     let p = among-tile (heldTiles h) x (valid-held h (a .valid) .list) (a .among) in
     let again : isFree (heldTiles (heldFrom r)) x ≡ true = ap (λ l. isFree l x) list ∙ free-again (heldTiles h) x (valid-held h (a .valid) .list) (a .among) in
     rw (a .is) (found-free (heldFrom r) x (rest-valid h x sixteen a) p again)
+
+-- ---- the promises
+
+pub held-determines : HeldDetermines
+held-determines = record {
+  takes = λ h m. record {
+    met = (takeOf h m, takes-one h m (takeOf h m) refl);
+    determined = equal-determines (TakesOne h m) (takeOf h m) (λ r p. p .equal);
+    numbers = λ r p. subst (IsOneOf (0 ∷ 8 ∷ 13 ∷ 16 ∷ [])) (sym (p .number)) (take-numbers (isSize m) (validHeld h) (isSome (lowestFree (heldTiles h) m)));
+    refused = λ r p n.
+        let k = taking-answers h m .refused (λ e. n (ap answerNumber (ap (λ (r : Taken). r .answer) (p .equal) ∙ e))) in
+        (ap (λ (r : Taken). r .number) (p .equal) ∙ k .0, ap (λ (r : Taken). r .held) (p .equal) ∙ k .1);
+  };
+  givesUp = λ h x. record {
+    met = (giveUpOf h x, gives-up-one h x (giveUpOf h x) refl);
+    determined = equal-determines (GivesUpOne h x) (giveUpOf h x) (λ r p. p .equal);
+    numbers = λ r p. one-of-test (validHeld h && isAmong (heldTiles h) x) (0 ∷ 16 ∷ []) _ _ _ (inl refl) (inr (inl refl)) (p .number);
+    refused = λ r p n.
+        ap (λ (r : GivenUp). r .held) (p .equal) ∙
+        giving-up-answers h .refused x (λ e. n (ap answerNumber (ap (λ (r : GivenUp). r .answer) (p .equal) ∙ e))) .1;
+  };
+}
+  where
+    take-numbers : (a b c : Bool) → IsOneOf (0 ∷ 8 ∷ 13 ∷ 16 ∷ []) (cond (not a) outOfRange (cond (not b) badHeld (cond c done noFreeTile)))
+    take-numbers false b c = inr (inl refl)
+    take-numbers true false c = inr (inr (inr (inl refl)))
+    take-numbers true true true = inl refl
+    take-numbers true true false = inr (inr (inl refl))
 
 -- ---- at a state
 

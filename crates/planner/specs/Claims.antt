@@ -1,4 +1,5 @@
--- The theorems about taking a tile and giving one up, as statements in bytes of ZA; proofs/Claims.antt proves each. Renders request 9.
+-- The theorems about taking a tile and giving one up, as statements in bytes of ZA, and that the promises leave nothing open; proofs/Claims.antt
+-- proves each. Renders request 9.
 -- Assumes nothing.
 use Prim.Native.Nat.{ℕ, _<_, _≤_}
 use mathlib.Core.Path.{_≡_}
@@ -6,12 +7,15 @@ use mathlib.Core.Bool.{true, false}
 use mathlib.Core.List.{List, [], _∷_, _++_}
 use mathlib.Core.Logic.{_⊎_}
 use lib.ListN.{length}
+use Rattle.general.specs.Determined.{Determined, Met, IsOneOf}
 use Rattle.planner.specs.Tile.{tileOf, isSize, isTile}
-use Rattle.planner.specs.Held.{heldTiles, heldFrom, validHeld, takeOf, giveUpOf}
+use Rattle.planner.specs.Held.{answerNumber, heldTiles, heldFrom, validHeld, takeOf, TakesOne, giveUpOf, GivesUpOne}
 use Rattle.planner.specs.Bytes.{Vectors, ByteShared, Halves, tileAt, Apart, SharedBy}
 use Rattle.planner.specs.declared.tile.Tile.{Tile}
 use Rattle.planner.specs.declared.held.Held.{Held}
 use Rattle.planner.specs.declared.answer.TileAnswer.the-variants.{Done, BadSize, BadHeld, NoFreeTile}
+use Rattle.planner.specs.declared.answer.Taken.{Taken}
+use Rattle.planner.specs.declared.answer.GivenUp.{GivenUp}
 
 -- a record of held tiles has sixteen places, as its type says
 abbrev pub Sixteen : Held → Type 0
@@ -90,6 +94,24 @@ TakingUndone = (h : Held) (m : ℕ) → Sixteen h → takeOf h m .answer ≡ Don
 -- when a tile has been given up, one of its size can be taken
 abbrev pub GivenUpRetaken : Type 0
 GivenUpRetaken = (h : Held) (x : Tile) → Sixteen h → giveUpOf h x .answer ≡ Done → takeOf (giveUpOf h x .held) (x .bytes) .answer ≡ Done
+
+-- ---- the promises leave nothing open: each statement is from the promise alone, whichever function meets it
+
+pub record TakesOneDetermines (h : Held) (m : ℕ) : Type 0 where
+  pub met : Met (TakesOne h m)
+  pub determined : Determined (TakesOne h m)
+  pub numbers : (r : Taken) → TakesOne h m r → IsOneOf (0 ∷ 8 ∷ 13 ∷ 16 ∷ []) (answerNumber (r .answer))
+  pub refused : (r : Taken) → TakesOne h m r → (answerNumber (r .answer) ≡ 0 → ⊥) → (r .number ≡ 0) × (r .held ≡ h)
+
+pub record GivesUpOneDetermines (h : Held) (x : Tile) : Type 0 where
+  pub met : Met (GivesUpOne h x)
+  pub determined : Determined (GivesUpOne h x)
+  pub numbers : (r : GivenUp) → GivesUpOne h x r → IsOneOf (0 ∷ 16 ∷ []) (answerNumber (r .answer))
+  pub refused : (r : GivenUp) → GivesUpOne h x r → (answerNumber (r .answer) ≡ 0 → ⊥) → r .held ≡ h
+
+pub record HeldDetermines : Type 0 where
+  pub takes : (h : Held) (m : ℕ) → TakesOneDetermines h m
+  pub givesUp : (h : Held) (x : Tile) → GivesUpOneDetermines h x
 
 -- ---- each theorem at a state
 

@@ -7,7 +7,7 @@ use native.Mathlib.Omega.{arith}
 use Rattle.general.specs.Scatter.{all, zeros}
 use Rattle.tiles.specs.Group.{groupAt}
 use Rattle.moves.proofs.BlockLaws.{WrittenTo, written-none, written-block, written-end}
-use Rattle.moves.proofs.GroupLaws.{groupAt-vector}
+use Rattle.tiles.proofs.GroupLaws.{groupAt-vector}
 use Rattle.moves.proofs.group.clear_group.Statement.{statement}
 use Rattle.moves.proofs.group.clear_group.Tie as tie
 

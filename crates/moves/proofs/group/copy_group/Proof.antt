@@ -9,7 +9,7 @@ use lib.ListN.{getD}
 use Rattle.general.specs.Scatter.{all, onwards}
 use Rattle.tiles.specs.Group.{groupAt}
 use Rattle.moves.proofs.BlockLaws.{WrittenTo, block-within, written-none, written-block, written-end}
-use Rattle.moves.proofs.GroupLaws.{groupAt-vector}
+use Rattle.tiles.proofs.GroupLaws.{groupAt-vector}
 use Rattle.moves.proofs.group.copy_group.Statement.{statement}
 use Rattle.moves.proofs.group.copy_group.Tie as tie
 

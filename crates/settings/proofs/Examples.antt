@@ -1,0 +1,38 @@
+-- The worked examples, computed.
+-- Assumes nothing.
+use mathlib.Core.Path.{refl}
+use mathlib.Core.List.{_∷_}
+use Rattle.settings.specs.Settings.{isVectorLength}
+use Rattle.settings.specs.Examples.{SettingsExamplesHold}
+
+pub settings-examples-hold : SettingsExamplesHold
+unfolding isVectorLength
+settings-examples-hold = record {
+  limits = refl;
+  five = refl;
+  wide = refl;
+  levels = refl;
+  valid = refl;
+  checked = refl;
+  checkedNumbers = refl;
+  lengthsMade = refl;
+  levelsMade = refl;
+  notLengths = refl;
+  notLevels = refl;
+  neither = refl;
+  streamingCleared = refl;
+  streamingSet = refl;
+  zaCleared = refl;
+  zaSet = refl;
+  address = refl;
+  addressBack = refl;
+  measures = refl;
+  asRecord = refl;
+  stride = refl;
+  measured = λ r ls′ p i. p .number i ∷ p .lengths i;
+  unmeasured = λ r ls′ p i. p .number i ∷ p .lengths i;
+  answers = refl;
+  numbers = refl;
+  first = refl;
+  none = refl;
+}

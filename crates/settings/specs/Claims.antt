@@ -1,0 +1,80 @@
+-- What the promises of specs/Settings.antt leave open: nothing. Each statement is from the promise alone, whichever function meets it;
+-- proofs/Claims.antt proves each. Renders 01 §2, §6 and §9.
+-- Assumes nothing.
+use Prim.Native.Nat.{ℕ, _*_, _/_, _≤_}
+use mathlib.Core.Path.{_≡_}
+use mathlib.Core.Bool.{Bool, true, false}
+use mathlib.Core.List.{List, [], _∷_}
+use Rattle.general.specs.Determined.{Determined, Met, IsOneOf}
+use Rattle.settings.specs.Answer.{checkedNumber}
+use Rattle.settings.specs.Settings.{isVectorLength, Checks, Makes, withStreaming, withZa, withMemoryAddress, strideOf, lengthsOf, lengthNumbers, Measures}
+use Rattle.settings.specs.declared.Settings.{Settings}
+use Rattle.settings.specs.declared.Checked.{Checked}
+use Rattle.settings.specs.declared.Made.{Made}
+
+-- the vector lengths of 01
+abbrev pub five : List ℕ
+five = 16 ∷ 32 ∷ 64 ∷ 128 ∷ 256 ∷ []
+
+-- a number is a vector length exactly if it is one of the five
+abbrev pub FiveLengths : Type 0
+FiveLengths = (B : ℕ) → (isVectorLength B ≡ true → IsOneOf five B) × (IsOneOf five B → isVectorLength B ≡ true)
+
+-- vectors start as far apart as they are long, and the lengths go by the vector length, whatever the other items
+pub record GoesByLength (s : Settings) : Type 0 where
+  pub stride : strideOf s ≡ s .«vector_bytes»
+  pub lengths : lengthNumbers (lengthsOf s) ≡ 32 ∷ (32 * s .«vector_bytes») ∷ (16 * (s .«vector_bytes» / 8)) ∷ (s .«vector_bytes» * s .«vector_bytes») ∷ []
+
+abbrev pub LengthsGoByLength : Type 0
+LengthsGoByLength = (s : Settings) → GoesByLength s
+
+-- settings item by item
+pub record Items (s : Settings) (B l : ℕ) (on on′ : Bool) (a : ℕ) : Type 0 where
+  pub vectorBytes : s .«vector_bytes» ≡ B
+  pub level : s .level ≡ l
+  pub streaming : s .streaming ≡ on
+  pub za : s .za ≡ on′
+  pub memoryAddress : s .«memory_address» ≡ a
+
+-- those in which only vector length and level are asked for
+abbrev pub Plain : Settings → ℕ → ℕ → Type 0
+Plain s B l = Items s B l false false 0
+
+-- each `with..` changes its item and no other, whatever the settings
+pub record WithsChange (s : Settings) : Type 0 where
+  pub streaming : (on : Bool) → Items (withStreaming s on) (s .«vector_bytes») (s .level) on (s .za) (s .«memory_address»)
+  pub za : (on : Bool) → Items (withZa s on) (s .«vector_bytes») (s .level) (s .streaming) on (s .«memory_address»)
+  pub memoryAddress : (a : ℕ) → Items (withMemoryAddress s a) (s .«vector_bytes») (s .level) (s .streaming) (s .za) a
+
+abbrev pub ItemsChange : Type 0
+ItemsChange = (s : Settings) → WithsChange s
+
+-- checking: one answer, 0 exactly if the vector length is one of the five and the level at most 3, else 1
+pub record ChecksDetermine (s : Settings) : Type 0 where
+  pub met : Met (Checks s)
+  pub determined : Determined (Checks s)
+  pub numbers : (r : Checked) → Checks s r → IsOneOf (0 ∷ 1 ∷ []) (checkedNumber r)
+  pub done : (r : Checked) → Checks s r → checkedNumber r ≡ 0 → IsOneOf five (s .«vector_bytes») × (s .level ≤ 3)
+  pub valid : (r : Checked) → Checks s r → IsOneOf five (s .«vector_bytes») → s .level ≤ 3 → checkedNumber r ≡ 0
+
+-- making: one record; what was asked for with 0, and with 1 the refused settings of 01, item by item
+pub record MakesDetermine (B level : ℕ) : Type 0 where
+  pub met : Met (Makes B level)
+  pub determined : Determined (Makes B level)
+  pub numbers : (r : Made) → Makes B level r → IsOneOf (0 ∷ 1 ∷ []) (checkedNumber (r .answer))
+  pub valid : (r : Made) → Makes B level r → IsOneOf five B → level ≤ 3 → checkedNumber (r .answer) ≡ 0
+  pub made : (r : Made) → Makes B level r → checkedNumber (r .answer) ≡ 0 → Plain (r .settings) B level
+  pub refused : (r : Made) → Makes B level r → (checkedNumber (r .answer) ≡ 0 → ⊥) → Plain (r .settings) 16 0
+
+-- asking for the lengths: one answer and one list, with 0 what the vector length fixes, with 1 the list that was there
+pub record MeasuresDetermine (B : ℕ) (ls : List ℕ) : Type 0 where
+  pub met : Met (λ (o : Checked × List ℕ). Measures B ls (o .0) (o .1))
+  pub determined : Determined (λ (o : Checked × List ℕ). Measures B ls (o .0) (o .1))
+  pub numbers : (r : Checked) (ls′ : List ℕ) → Measures B ls r ls′ → IsOneOf (0 ∷ 1 ∷ []) (checkedNumber r)
+  pub done : (r : Checked) (ls′ : List ℕ) → Measures B ls r ls′ → checkedNumber r ≡ 0 → ls′ ≡ 32 ∷ (32 * B) ∷ (16 * (B / 8)) ∷ (B * B) ∷ []
+  pub refused : (r : Checked) (ls′ : List ℕ) → Measures B ls r ls′ → (checkedNumber r ≡ 0 → ⊥) → ls′ ≡ ls
+
+pub record SettingsDetermine : Type 0 where
+  pub checks : (s : Settings) → ChecksDetermine s
+  pub makes : (B level : ℕ) → MakesDetermine B level
+  pub measures : (B : ℕ) (ls : List ℕ) → MeasuresDetermine B ls
