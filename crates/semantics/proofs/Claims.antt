@@ -8,11 +8,20 @@ use Rattle.settings.specs.declared.Settings.{Settings}
 use Rattle.semantics.specs.declared.answer.Refusal.{Refusal}
 use Rattle.semantics.specs.declared.answer.Executed.{Executed}
 use Rattle.semantics.specs.declared.answer.Executed.the-variants.{Done, Refused}
-use Rattle.semantics.specs.State.{State}
+use Rattle.semantics.specs.State.{State, publicOf}
 use Rattle.semantics.specs.Execute.{Outcome, ifDone, executeOf}
 use Rattle.semantics.specs.Run.{Ran, oneMore, runOf}
-use Rattle.semantics.specs.Claims.{AnswersAgree, Keeps, ExecutionKeeps, RunGoesOn}
-use Rattle.semantics.proofs.ExecuteLaws.{refused-not-done, Ends, does, stays, ends}
+use Rattle.semantics.specs.Claims.{AnswersAgree, ExecutingDetermines, Keeps, ExecutionKeeps, OperationsMean, OperationsSettle, RunGoesOn}
+use Rattle.semantics.specs.Promise.{Executes}
+use Rattle.semantics.specs.Answer.{executedNumber}
+use Rattle.general.proofs.DeterminedLaws.{equal-determines}
+use Rattle.semantics.specs.Operations.{Means}
+use Rattle.semantics.specs.Reasons.{AnswersExactly}
+use Rattle.semantics.proofs.OperationLaws.{effect-means}
+use Rattle.semantics.proofs.SettleLaws.{means-settle}
+use Rattle.semantics.proofs.ReasonLaws.{given-exactly, address-told, refusal-keeps}
+use Rattle.encoding.proofs.RangeLaws.{decoded-in-range}
+use Rattle.semantics.proofs.ExecuteLaws.{refused-not-done, Ends, does, stays, ends, does-operation, does-answer}
 use Rattle.semantics.proofs.ExecuteLaws as laws
 use Rattle.semantics.proofs.EffectLaws.{effect-keeps}
 
@@ -25,6 +34,33 @@ execution-keeps s w t = go (ends s w t)
     go : Ends s w t → Keeps t (executeOf s w t .state)
     go (does o d) = subst (Keeps t) (sym (d .state)) (effect-keeps s o t)
     go (stays r n e) = subst (Keeps t) (sym e) (record { x = refl; p = refl; z = refl; za = refl; memory = refl })
+
+-- ---- what executing promises
+
+-- what the definition gives meets the promise
+pub definition-executes : (s : Settings) (w : ℕ) (t : State) → Executes s w t (executeOf s w t .answer) (executeOf s w t .state)
+unfolding executeOf
+definition-executes s w t = record { answer = refl; numbers = answers-agree s w (publicOf t); state = refl }
+
+pub executing-determines : ExecutingDetermines
+executing-determines s w t = record {
+  met = ((executeOf s w t .answer, executeOf s w t .state), definition-executes s w t);
+  determined = equal-determines (λ (o : Executed × State). Executes s w t (o .0) (o .1)) (executeOf s w t .answer, executeOf s w t .state) (λ o p i. (p .answer i, p .state i));
+  refused = λ r t′ p n. p .state ∙ refusal-keeps s w t (λ e. n (ap executedNumber (p .answer) ∙ e));
+}
+
+-- ---- 01's own words
+
+pub operations-mean : OperationsMean
+operations-mean s w t o d =
+    let h = does-operation s w t o (d .0) (d .1) in
+    subst (λ (t′ : State). Means s t t′ o) (sym (h .state)) (effect-means s t (h .sized) o (decoded-in-range w (s .level) o (d .0)) (does-answer s w t o h))
+
+pub operations-settle : OperationsSettle
+operations-settle s w t t′ o d k m = means-settle s t t′ (executeOf s w t .state) k (execution-keeps s w t) o m (operations-mean s w t o d)
+
+pub answers-exactly : AnswersExactly
+answers-exactly s w t = (given-exactly s w t, address-told s w t, refusal-keeps s w t)
 
 -- ---- runs, word by word
 
@@ -40,6 +76,14 @@ module _ (s : Settings) where
       go : (a : Executed) (t′ : State) → step a (record { answer = a; state = t′ }) (record { words = 0; ending = record { answer = Done; state = t′ } }) .ending ≡ record { answer = a; state = t′ }
       go Done t′ = refl
       go (Refused r) t′ = refl
+
+  run-counted : (t : State) (w : ℕ) → runOf s (w ∷ []) t .words ≡ ifDone (executeOf s w t .answer) 0 1
+  unfolding runOf
+  run-counted t w = go (executeOf s w t .answer) (executeOf s w t)
+    where
+      go : (a : Executed) (o : Outcome) → step a o (record { words = 0; ending = record { answer = Done; state = o .state } }) .words ≡ ifDone a 0 1
+      go Done o = refl
+      go (Refused r) o = refl
 
   -- what is claimed where words go on
   abbrev GoesOn : List ℕ → List ℕ → State → Type 0
@@ -70,4 +114,4 @@ module _ (s : Settings) where
       go (Refused r′) e ih = refl
 
 pub run-goes-on : RunGoesOn
-run-goes-on s t = record { one = run-one s t; more = λ ws vs. run-more s ws vs t; stops = λ ws vs. run-stops s ws vs t }
+run-goes-on s t = record { one = run-one s t; counted = run-counted s t; more = λ ws vs. run-more s ws vs t; stops = λ ws vs. run-stops s ws vs t }

@@ -35,7 +35,8 @@ examples-hold =
       example9 = record { active = refl; none = refl; aligned = refl };
       example10 = record { all = refl; some = refl; later = refl };
       exampleStore = record { inside = refl; outside = refl };
-      example12 = record { both = refl; za = refl; level = refl; word = refl };
+      exampleSlices = record { column = refl; taken = refl; row = refl };
+      example12 = record { both = refl; za = refl; level = refl; word = refl; order = refl };
       run = record { empty = (refl, refl); both = (refl, refl); stores = refl; address = refl; stops = (refl, refl) };
       written = record { toTile = refl; fromTile = refl; zeroing = refl; array = refl; arrayZeroing = refl; store = refl; load = refl };
       added =

@@ -1,7 +1,7 @@
 -- Laws of specs/Execute.antt and specs/Lines.antt: what a done answer says, that a refusal changes nothing, and that both definitions of the answer agree.
 -- Assumes nothing.
 use Prim.Native.Nat.{ℕ, _+_, _^_, _≤_}
-use mathlib.Core.Path.{_≡_, refl, sym, ap, _∙_}
+use mathlib.Core.Path.{_≡_, refl, sym, ap, _∙_, subst}
 use mathlib.Core.Bool.{Bool, true, false, cond, _&&_, not, and-eq-true-iff}
 use mathlib.Core.List.{[]}
 use mathlib.Core.Option.{Option, none, some}
@@ -47,18 +47,23 @@ pub settings-facts : (s : Settings) → validSettings s ≡ true → (isVectorLe
 settings-facts s e = let h = and-eq-true-iff (isVectorLength (s .«vector_bytes»)) (leb (s .level) maxLevel) .0 e in (h .0, leb-true _ _ (h .1))
 
 module _ (s : Settings) (lx lz lp lza lm : ℕ) where
-  pub valid-sized : validSettings s ≡ true → validLengths s lx lz lp lza lm ≡ true → Sized s lx lz lp lza lm
-  valid-sized v e =
+  pub lengths-facts : validLengths s lx lz lp lza lm ≡ true → (lx ≡ lengthsOf s .x) × (lz ≡ lengthsOf s .z) × (lp ≡ lengthsOf s .p) × (lza ≡ lengthsOf s .za) × (s .«memory_address» + lm ≤ 2 ^ 64)
+  lengths-facts e =
       let a = eqb lx (lengthsOf s .x) in
       let b = eqb lz (lengthsOf s .z) in
       let c = eqb lp (lengthsOf s .p) in
       let d = eqb lza (lengthsOf s .za) in
-      let i = settings-facts s v in
       let h = and-eq-true-iff (a && b && c && d) (leb (s .«memory_address» + lm) (2 ^ 64)) .0 e in
       let g = and-eq-true-iff (a && b && c) d .0 (h .0) in
       let k = and-eq-true-iff (a && b) c .0 (g .0) in
       let l = and-eq-true-iff a b .0 (k .0) in
-      record { vector = i .0; level = i .1; x = eqb-true _ _ (l .0); z = eqb-true _ _ (l .1); p = eqb-true _ _ (k .1); za = eqb-true _ _ (g .1); memory = leb-true _ _ (h .1) }
+      (eqb-true _ _ (l .0), eqb-true _ _ (l .1), eqb-true _ _ (k .1), eqb-true _ _ (g .1), leb-true _ _ (h .1))
+
+  pub valid-sized : validSettings s ≡ true → validLengths s lx lz lp lza lm ≡ true → Sized s lx lz lp lza lm
+  valid-sized v e =
+      let i = settings-facts s v in
+      let h = lengths-facts e in
+      record { vector = i .0; level = i .1; x = h .0; z = h .1; p = h .2; za = h .3; memory = h .4 }
 
   pub sized-settings : Sized s lx lz lp lza lm → validSettings s ≡ true
   sized-settings h = rw (h .vector) (le-leb _ _ (h .level))
@@ -182,3 +187,23 @@ module _ (s : Settings) (w : ℕ) (t : State) where
       ap (wordAnswer s (t .x) (t .p) (length (t .memory))) dec ∙
       ap (λ (b : Bool). guard b StreamingOff (guard (s .za) ZaOff rest)) on ∙
       ap (λ (b : Bool). guard b ZaOff rest) za
+
+  -- a done execution of a word that decodes to an operation is done with that operation
+  pub does-operation : (o : Operation) → decodeOf w (s .level) ≡ decoded.Done o → executeOf s w t .answer ≡ Done → Does o
+  does-operation o d e = go ends
+    where
+      -- the operation of a decoded word; o where there is none
+      held : Decoded → Operation
+      held (decoded.Done q) = q
+      held decoded.BadLevel = o
+      held decoded.Undecodable = o
+
+      go : Ends → Does o
+      go (does q h) = subst Does (ap held (sym (h .decoded) ∙ d)) h
+      go (stays r n q) = absurd (refused-not-done r (sym n ∙ e))
+
+  -- and the operation is not refused
+  pub does-answer : (o : Operation) → Does o → operationAnswer s (t .x) (t .p) (length (t .memory)) o ≡ Done
+  does-answer o h =
+      guard-done (s .za) _ _
+      (guard-done (s .streaming) _ _ (sym (ap (wordAnswer s (t .x) (t .p) (length (t .memory))) (h .decoded)) ∙ (sym (sized-answer (h .sized)) ∙ h .answer)) .1) .1

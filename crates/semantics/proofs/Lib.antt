@@ -1,4 +1,7 @@
 pub mod Examples
 pub mod ExecuteLaws
 pub mod EffectLaws
+pub mod OperationLaws
+pub mod ReasonLaws
+pub mod SettleLaws
 pub mod Claims

@@ -10,8 +10,11 @@ use lib.Dec.{eqb}
 use lib.ListN.{set, take, drop, replicate}
 use Rattle.encoding.specs.Examples.{WordsHold}
 use Rattle.tiles.specs.Examples.{PlacesHold}
+use Rattle.settings.specs.Settings.{settingsOf}
+use Rattle.semantics.specs.State.{stateOf}
+use Rattle.semantics.specs.Execute.{executeOf}
 use Rattle.semantics.specs.Run.{Ran, runOf}
-use Rattle.semantics.specs.ExampleBuffers.{settingsAt, stateAt, seen, alternate, vectorIn, zAt, zaAt, memoryOf, xWith, ones, predicate0, Seen, executedIn, executed, executedUnder, executedAt, vectors, doneWith, refusedWith}
+use Rattle.semantics.specs.ExampleBuffers.{bytesFrom, switched, settingsAt, stateAt, seen, alternate, vectorIn, zAt, zaAt, memoryOf, xWith, ones, predicate0, Seen, executedIn, executed, executedUnder, executedAt, vectors, doneWith, refusedWith}
 use Rattle.semantics.specs.AddedExamples.{AddedHold}
 use Rattle.semantics.specs.AccessExamples.{AccessHold}
 use Rattle.semantics.specs.PlaceExamples.{ExamplePlaces}
@@ -102,6 +105,23 @@ pub record ExampleStore : Type 0 where
       doneWith (zAt 32) (zaAt 32) (take 8 (memoryOf 64) ++ (alternate true (vectors 1 32 (λ e. take 1 (drop 23 (vectorIn (zaAt 32) 32 e)))) (drop 8 (memoryOf 64)) ++ drop 40 (memoryOf 64)))
   pub outside : storedAt 28 ≡ refusedWith 32 28 7 0x101C
 
+-- beyond 01's examples, at B 32: columns of 16-byte elements, and a horizontal slice taken with zeroing
+pub record ExampleSlices : Type 0 where
+  -- C0C1D526: to the tile, m = 16, vertical, W14, P5, Z9, tile 6. W14 = 21: slice 1, element e is bytes 16 to 31 of vector 16e + 6; of P5 bit 0 is clear and bit 16 set
+  pub column : executed 32 0xC0C1D526 8 (xWith 14 21) (replicate 20 255 ++ (0xFE ∷ 0xFF ∷ 1 ∷ 0 ∷ replicate 40 255)) ≡
+      doneWith (zAt 32) (take 720 (zaAt 32) ++ (drop 16 (vectorIn (zAt 32) 32 9) ++ drop 736 (zaAt 32))) (memoryOf 8)
+  -- C0C3C2C9: the same slice to Z9, which is then zero
+  pub taken : executed 32 0xC0C3C2C9 8 (xWith 14 21) (replicate 64 0) ≡
+      doneWith (take 288 (zAt 32) ++ (drop 16 (vectorIn (zaAt 32) 32 6) ++ (drop 16 (vectorIn (zaAt 32) 32 22) ++ drop 320 (zAt 32))))
+      (vectors 32 32 (λ v. cond (eqb (v % 16) 6) (take 16 (vectorIn (zaAt 32) 32 v) ++ replicate 16 0) (vectorIn (zaAt 32) 32 v))) (memoryOf 8)
+  -- C082232B: m = 4, horizontal, W13, tile 2, offset 1, Z11. W13 = 12: slice 5, vector 22
+  pub row : executed 32 0xC082232B 8 (xWith 13 12) (replicate 64 0) ≡
+      doneWith (take 352 (zAt 32) ++ (vectorIn (zaAt 32) 32 22 ++ drop 384 (zAt 32))) (take 704 (zaAt 32) ++ (replicate 32 0 ++ drop 736 (zaAt 32))) (memoryOf 8)
+
+-- a word that is no instruction, with both switches off and P one byte too short, at a level
+abbrev unsettled : ℕ → ℕ
+unsettled level = seen (executeOf (switched (settingsOf 16 level) false false) 0xC0000010 (stateOf (bytesFrom 50 32) (zAt 16) (drop 1 (ones 16)) (zaAt 16) (memoryOf 8))) .number
+
 -- 12, and the other checks of settings: C0000000 at level 1 with both switches off gives 4, with ZA off 5; level 4 gives 1
 pub record Example12 : Type 0 where
   pub both : executedUnder 1 false false 0xC0000000 ≡ refusedWith 16 8 4 0
@@ -109,6 +129,8 @@ pub record Example12 : Type 0 where
   pub level : executedAt 4 0xC0000000 ≡ refusedWith 16 8 1 0
   -- beyond 01's sentence: a word that is no instruction gives 3 with both switches off too
   pub word : executedUnder 1 false false 0xC0000010 ≡ refusedWith 16 8 3 0
+  -- and with a buffer too short 2, with level 4 beside it 1
+  pub order : map unsettled (1 ∷ 4 ∷ []) ≡ 2 ∷ 1 ∷ []
 
 -- beyond 01's examples: runs of words, B 16, W12 = 35, so row 3. C0000000 moves Z0 to the row, C0020200 takes the row to Z0 and zeroes it
 abbrev afterRun : List ℕ → Ran
@@ -145,6 +167,7 @@ pub record ExamplesHold : Type 0 where
   pub example9 : Example9
   pub example10 : Example10
   pub exampleStore : ExampleStore
+  pub exampleSlices : ExampleSlices
   pub example12 : Example12
   pub run : ExampleRun
   pub written : ExamplePlaces

@@ -5,9 +5,11 @@ pub mod Access
 pub mod Effect
 pub mod Execute
 pub mod Lines
+pub mod Operations
+pub mod Reasons
 pub mod Run
-pub mod Claims
 pub mod Promise
+pub mod Claims
 pub mod Steps
 pub mod ExampleBuffers
 pub mod AddedExamples

@@ -1,0 +1,1 @@
+// Worked examples at the two longest vector lengths: no code that a host calls.

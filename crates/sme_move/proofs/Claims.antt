@@ -1,0 +1,109 @@
+-- Each theorem of specs/Claims.antt.
+-- Assumes nothing.
+use Prim.Native.Nat.{ℕ}
+use mathlib.Core.Path.{_≡_, refl, sym, ap, _∙_, subst}
+use mathlib.Core.Bool.{Bool, cond}
+use mathlib.Core.List.{List, [], _∷_}
+use mathlib.Core.Logic.{inl, inr}
+use lib.ListN.{getD}
+use borrow.Author.Tests.{eq-eqb, ne-eqb}
+use Rattle.general.specs.Determined.{IsOneOf}
+use Rattle.general.proofs.DeterminedLaws.{equal-determines, one-of-test, other-number}
+use Rattle.settings.specs.Answer.{Answer, firstValue, done}
+use Rattle.settings.specs.Settings.{isVectorLength, settingsOf, lengthsOf, lengthNumbers}
+use Rattle.settings.specs.declared.Settings.{Settings}
+use Rattle.settings.proofs.Claims.{passed}
+use Rattle.encoding.specs.Codec.{decodeAnswer, encodeAnswer}
+use Rattle.encoding.proofs.AnswerLaws.{decode-answered, encode-answered}
+use Rattle.semantics.specs.Answer.{executedNumber, executedAddress}
+use Rattle.semantics.specs.State.{State}
+use Rattle.semantics.specs.Execute.{executeOf}
+use Rattle.semantics.specs.declared.answer.Refusal.{Refusal}
+use Rattle.semantics.specs.declared.answer.Refusal.the-variants.{BadSettings, BadLengths, Undecodable, StreamingOff, ZaOff, StackMisaligned, OutsideMemory}
+use Rattle.semantics.specs.declared.answer.Executed.{Executed}
+use Rattle.semantics.specs.declared.answer.Executed.the-variants.{Done, Refused}
+use Rattle.semantics.proofs.Claims.{definition-executes, executing-determines}
+use Rattle.sme_move.specs.Export.{Exports, fieldsAfter, DecodeExports, EncodeExports, LengthExports}
+use Rattle.sme_move.specs.Claims.{ExportsDetermine, DecodeExportsDetermine, EncodeExportsDetermine, LengthExportsDetermine, ExportsAllDetermine}
+
+-- ---- execution
+
+refusal-numbers : (r : Refusal) → IsOneOf (0 ∷ 1 ∷ 2 ∷ 3 ∷ 4 ∷ 5 ∷ 6 ∷ 7 ∷ []) (executedNumber (Refused r))
+refusal-numbers BadSettings = inr (inl refl)
+refusal-numbers BadLengths = inr (inr (inl refl))
+refusal-numbers Undecodable = inr (inr (inr (inl refl)))
+refusal-numbers StreamingOff = inr (inr (inr (inr (inl refl))))
+refusal-numbers ZaOff = inr (inr (inr (inr (inr (inl refl)))))
+refusal-numbers StackMisaligned = inr (inr (inr (inr (inr (inr (inl refl))))))
+refusal-numbers (OutsideMemory a) = inr (inr (inr (inr (inr (inr (inr (inl refl)))))))
+
+executed-numbers : (e : Executed) → IsOneOf (0 ∷ 1 ∷ 2 ∷ 3 ∷ 4 ∷ 5 ∷ 6 ∷ 7 ∷ []) (executedNumber e)
+executed-numbers Done = inl refl
+executed-numbers (Refused r) = refusal-numbers r
+
+refusal-address : (r : Refusal) → (executedNumber (Refused r) ≡ 7 → ⊥) → executedAddress (Refused r) ≡ 0
+refusal-address BadSettings n = refl
+refusal-address BadLengths n = refl
+refusal-address Undecodable n = refl
+refusal-address StreamingOff n = refl
+refusal-address ZaOff n = refl
+refusal-address StackMisaligned n = refl
+refusal-address (OutsideMemory a) n = absurd (n refl)
+
+executed-address : (e : Executed) → (executedNumber e ≡ 7 → ⊥) → executedAddress e ≡ 0
+executed-address Done n = refl
+executed-address (Refused r) n = refusal-address r n
+
+exports-determine : (s : Settings) (w : ℕ) (t : State) → ExportsDetermine s w t
+exports-determine s w t = record {
+  met = ((executedNumber a, executedAddress a, executeOf s w t .state), record { answer = a; executes = definition-executes s w t; number = refl; address = refl });
+  determined = equal-determines (λ (o : ℕ × ℕ × State). Exports s w t (o .0) (o .1) (o .2)) (executedNumber a, executedAddress a, executeOf s w t .state)
+      (λ o p i. (number p i, (p .address ∙ ap executedAddress (p .executes .answer)) i, p .executes .state i));
+  numbers = λ r b t′ p. subst (IsOneOf (0 ∷ 1 ∷ 2 ∷ 3 ∷ 4 ∷ 5 ∷ 6 ∷ 7 ∷ [])) (sym (p .number)) (executed-numbers (p .answer));
+  table = λ r b t′ p. (p .number ∙ ap (λ (a : Answer). a .number) (p .executes .numbers), p .address ∙ ap firstValue (p .executes .numbers));
+  refused = λ r b t′ p n. executing-determines s w t .refused (p .answer) t′ (p .executes) (λ e. n (p .number ∙ e));
+  address = λ r b t′ p n. p .address ∙ executed-address (p .answer) (λ e. n (p .number ∙ e));
+}
+  where
+    a : Executed
+    a = executeOf s w t .answer
+
+    number : {r b : ℕ} {t′ : State} → Exports s w t r b t′ → r ≡ executedNumber (executeOf s w t .answer)
+    number p = p .number ∙ ap executedNumber (p .executes .answer)
+
+-- ---- words
+
+decode-exports-determine : (w level : ℕ) (f : List ℕ) → DecodeExportsDetermine w level f
+decode-exports-determine w level f = record {
+  determined = equal-determines (λ (o : ℕ × List ℕ). DecodeExports w level f (o .0) (o .1)) (decodeAnswer w level .number, fieldsAfter (decodeAnswer w level) f) (λ o p i. (p .number i, p .fields i));
+  numbers = λ r f′ p. subst (IsOneOf (0 ∷ 1 ∷ 3 ∷ [])) (sym (p .number)) (decode-answered w level .number);
+  number = λ r f′ p. p .number;
+  done = λ r f′ p e. p .fields ∙ ap (λ (b : Bool). cond b (decodeAnswer w level .values) f) (eq-eqb (decodeAnswer w level .number) done (sym (p .number) ∙ e));
+  refused = λ r f′ p n. p .fields ∙ ap (λ (b : Bool). cond b (decodeAnswer w level .values) f) (ne-eqb (decodeAnswer w level .number) done (λ e. n (p .number ∙ e)));
+}
+
+encode-exports-determine : (f : List ℕ) → EncodeExportsDetermine f
+encode-exports-determine f = record {
+  determined = equal-determines (λ (o : ℕ × ℕ). EncodeExports f (o .0) (o .1)) (encodeAnswer f .number, firstValue (encodeAnswer f)) (λ o p i. (p .number i, p .word i));
+  numbers = λ r w p. subst (IsOneOf (0 ∷ 8 ∷ [])) (sym (p .number)) (encode-answered f .number);
+  table = λ r w p. (p .number, p .word);
+  refused = λ r w p n. p .word ∙ ap (λ (vs : List ℕ). getD vs 0 0) (encode-answered f .values (λ e. n (p .number ∙ e)));
+}
+
+-- ---- lengths
+
+length-exports-determine : (B : ℕ) (l : List ℕ) → LengthExportsDetermine B l
+length-exports-determine B l = record {
+  determined = equal-determines (λ (o : ℕ × List ℕ). LengthExports B l (o .0) (o .1)) _ (λ o p i. (p .number i, p .lengths i));
+  numbers = λ r l′ p. one-of-test (isVectorLength B) (0 ∷ 1 ∷ []) _ _ _ (inl refl) (inr (inl refl)) (p .number);
+  done = λ r l′ p e. p .lengths ∙ ap (λ (b : Bool). cond b (lengthNumbers (lengthsOf (settingsOf B 0))) l) (passed (isVectorLength B) (sym (p .number) ∙ e));
+  refused = λ r l′ p. other-number (isVectorLength B) _ _ _ _ _ _ (p .number) (p .lengths);
+}
+
+pub exports-all-determine : ExportsAllDetermine
+exports-all-determine = record {
+  executes = exports-determine;
+  decodes = decode-exports-determine;
+  encodes = encode-exports-determine;
+  lengths = length-exports-determine;
+}

@@ -1,0 +1,51 @@
+-- What the promises of specs/Export.antt leave open: nothing. Each statement is from the promise alone, whichever function meets it;
+-- proofs/Claims.antt proves each. Renders 01 §6 and §9.
+-- Assumes nothing.
+use Prim.Native.Nat.{ℕ, _*_, _/_}
+use mathlib.Core.Path.{_≡_}
+use mathlib.Core.List.{List, [], _∷_}
+use Rattle.general.specs.Determined.{Determined, Met, IsOneOf}
+use Rattle.settings.specs.Answer.{firstValue}
+use Rattle.settings.specs.declared.Settings.{Settings}
+use Rattle.encoding.specs.Codec.{decodeAnswer, encodeAnswer}
+use Rattle.semantics.specs.State.{State, publicOf}
+use Rattle.semantics.specs.Lines.{answerInNumbers}
+use Rattle.sme_move.specs.Export.{Exports, DecodeExports, EncodeExports, LengthExports}
+
+-- execution: one number, one address, one content of every buffer; number and address are those of the table of answers; another number than 0
+-- leaves every buffer as it was, and another than 7 gives address 0
+pub record ExportsDetermine (s : Settings) (w : ℕ) (t : State) : Type 0 where
+  pub met : Met (λ (o : ℕ × ℕ × State). Exports s w t (o .0) (o .1) (o .2))
+  pub determined : Determined (λ (o : ℕ × ℕ × State). Exports s w t (o .0) (o .1) (o .2))
+  pub numbers : (r a : ℕ) (t′ : State) → Exports s w t r a t′ → IsOneOf (0 ∷ 1 ∷ 2 ∷ 3 ∷ 4 ∷ 5 ∷ 6 ∷ 7 ∷ []) r
+  pub table : (r a : ℕ) (t′ : State) → Exports s w t r a t′ → (r ≡ answerInNumbers s w (publicOf t) .number) × (a ≡ firstValue (answerInNumbers s w (publicOf t)))
+  pub refused : (r a : ℕ) (t′ : State) → Exports s w t r a t′ → (r ≡ 0 → ⊥) → t′ ≡ t
+  pub address : (r a : ℕ) (t′ : State) → Exports s w t r a t′ → (r ≡ 7 → ⊥) → a ≡ 0
+
+-- decoding: number and fields are those of the definition with 0, and another number leaves the fields as they were
+pub record DecodeExportsDetermine (w level : ℕ) (f : List ℕ) : Type 0 where
+  pub determined : Determined (λ (o : ℕ × List ℕ). DecodeExports w level f (o .0) (o .1))
+  pub numbers : (r : ℕ) (f′ : List ℕ) → DecodeExports w level f r f′ → IsOneOf (0 ∷ 1 ∷ 3 ∷ []) r
+  pub number : (r : ℕ) (f′ : List ℕ) → DecodeExports w level f r f′ → r ≡ decodeAnswer w level .number
+  pub done : (r : ℕ) (f′ : List ℕ) → DecodeExports w level f r f′ → r ≡ 0 → f′ ≡ decodeAnswer w level .values
+  pub refused : (r : ℕ) (f′ : List ℕ) → DecodeExports w level f r f′ → (r ≡ 0 → ⊥) → f′ ≡ f
+
+-- encoding: number and word are those of the definition, and another number than 0 gives word 0
+pub record EncodeExportsDetermine (f : List ℕ) : Type 0 where
+  pub determined : Determined (λ (o : ℕ × ℕ). EncodeExports f (o .0) (o .1))
+  pub numbers : (r w : ℕ) → EncodeExports f r w → IsOneOf (0 ∷ 8 ∷ []) r
+  pub table : (r w : ℕ) → EncodeExports f r w → (r ≡ encodeAnswer f .number) × (w ≡ firstValue (encodeAnswer f))
+  pub refused : (r w : ℕ) → EncodeExports f r w → (r ≡ 0 → ⊥) → w ≡ 0
+
+-- lengths: with 0 what the vector length fixes, and another number leaves them as they were
+pub record LengthExportsDetermine (B : ℕ) (l : List ℕ) : Type 0 where
+  pub determined : Determined (λ (o : ℕ × List ℕ). LengthExports B l (o .0) (o .1))
+  pub numbers : (r : ℕ) (l′ : List ℕ) → LengthExports B l r l′ → IsOneOf (0 ∷ 1 ∷ []) r
+  pub done : (r : ℕ) (l′ : List ℕ) → LengthExports B l r l′ → r ≡ 0 → l′ ≡ 32 ∷ (32 * B) ∷ (16 * (B / 8)) ∷ (B * B) ∷ []
+  pub refused : (r : ℕ) (l′ : List ℕ) → LengthExports B l r l′ → (r ≡ 0 → ⊥) → l′ ≡ l
+
+pub record ExportsAllDetermine : Type 0 where
+  pub executes : (s : Settings) (w : ℕ) (t : State) → ExportsDetermine s w t
+  pub decodes : (w level : ℕ) (f : List ℕ) → DecodeExportsDetermine w level f
+  pub encodes : (f : List ℕ) → EncodeExportsDetermine f
+  pub lengths : (B : ℕ) (l : List ℕ) → LengthExportsDetermine B l
