@@ -2,7 +2,7 @@
 -- Assumes nothing.
 use Prim.Native.Nat.{ℕ, suc, _*_, _/_, _<_, _≤_}
 use mathlib.Core.Path.{_≡_, refl, sym, ap, _∙_, subst}
-use mathlib.Core.Bool.{true≢false}
+use mathlib.Core.Bool.{true, true≢false}
 use mathlib.Core.List.{List, [], _∷_, _++_, map}
 use mathlib.Core.Option.{Option, none, some}
 use native.Mathlib.Nat.{le-refl, mod-lt}
@@ -10,20 +10,16 @@ use native.Mathlib.Omega.{arith}
 use Rattle.tiles.specs.Element.{bytesOf}
 use Rattle.tiles.specs.declared.element.ElementSize.{ElementSize}
 use Rattle.tiles.specs.declared.direction.Direction.{Direction}
-use Rattle.encoding.specs.declared.operation.SliceAccess.{SliceAccess}
+use Rattle.encoding.specs.declared.operation.RegisterCount.{RegisterCount}
+use Rattle.encoding.specs.declared.operation.RegisterCount.the-variants.{Two, Four}
 use Rattle.encoding.specs.declared.operation.Operation.{Operation}
 use Rattle.encoding.specs.declared.operation.Operation.the-variants.{MovaToTile, MovazFromTile, MovaFromArray, MovazFromArray, St1, MovaFromTile, Ld1}
 use Rattle.encoding.specs.declared.operation.Decoded.the-variants.{Done}
-use Rattle.settings.specs.Settings.{isVectorLength}
-use Rattle.encoding.specs.Table.{table}
-use Rattle.encoding.specs.Codec.{rowOfWord, decodeOf}
+use Rattle.encoding.specs.Flat.{registersOf}
 use Rattle.encoding.proofs.RangeLaws.{decoded-in-range}
-use Rattle.general.specs.Least.{least}
-use Rattle.general.specs.Scatter.{scatter, all}
+use Rattle.general.specs.Scatter.{all}
 use Rattle.tiles.specs.Predicate.{active}
 use Rattle.tiles.specs.Direction.{flip}
-use Rattle.tiles.specs.Tile.{byteOf, sliceAt}
-use Rattle.tiles.specs.Group.{groupAt}
 use Rattle.tiles.proofs.TileLaws.{element-below}
 use Rattle.tiles.proofs.LengthLaws.{whole-elements}
 use Rattle.tiles.proofs.SliceLaws.{active-element, written-at}
@@ -31,13 +27,14 @@ use Rattle.semantics.specs.declared.answer.Executed.{Executed}
 use Rattle.semantics.specs.declared.answer.Executed.the-variants as executed
 use Rattle.semantics.specs.State.{State, publicOf}
 use Rattle.semantics.specs.Effect.{writesOf, valuesOf, effectOf}
-use Rattle.semantics.specs.Execute.{ifDone, accessAnswer, answerOf, executeOf}
+use Rattle.semantics.specs.Execute.{ifDone}
 use Rattle.semantics.proofs.ExecuteLaws.{refused-not-done, Ends, does, stays, ends}
 use Rattle.semantics.proofs.EffectLaws.{effect-idle}
 use Rattle.general.specs.Places.{Idle}
 use Rattle.settings.proofs.SettingsLaws.{five-lengths}
-use Rattle.laws.specs.Calls.{Call, stateWith, outcome, zaAfter, run, Move, into, out, other, decodedOf, decodedMove, moved, withMove, moves}
-use Rattle.laws.specs.Between.{LeavesZa, refused, idle, LeavesIsKept, BesideMayRun, Beside, BesideLeaves, RefusedLeaves, InactiveLeaves, InactiveShown, LoadsHavePlaces, LoadsDoNotLeave, LoadsZero, LoadsStayOut, BesideShown, ZeroingWrites, LoadsWrite}
+use Rattle.laws.specs.Calls.{Call, stateWith, outcome, zaAfter, run, Move, into, out, other, decodedOf, moveOf, decodedMove, moved, withMove, moves}
+use Rattle.laws.specs.Between.{LeavesZa, refused, idle, LeavesIsKept, BesideMayRun, Beside, BesideLeaves, RefusedLeaves, InactiveLeaves, LoadsHavePlaces, LoadsDoNotLeave, LoadsZero, LoadsStayOut, ZeroingDoesNotLeave, ZeroingStaysOut}
+use Rattle.laws.specs.Crossing.{Crosses}
 use Rattle.laws.proofs.CallLaws.{DoesCall, run-append}
 
 same-operation : {o o′ : Operation} → Done o ≡ Done o′ → o ≡ o′
@@ -90,15 +87,24 @@ inactive-leaves c za o e h = go (ends (c .settings) (c .word) (stateWith c za))
         let w = whole-elements (o .slice .size) B (d .sized .vector) in
         idle (MovaToTile o) e (λ k below. h (k / bytesOf (o .slice .size)) (element-below B B (bytesOf (o .slice .size)) (B / bytesOf (o .slice .size)) (w .elements) (le-refl B) k (w .some) below))
 
--- ---- loads
+-- ---- calls that write ZA
 
--- a done load is done by its own operation
-load-does : (c : Call) (za : List ℕ) (o : SliceAccess) → decodedOf c ≡ Done (Ld1 o) → outcome c za .answer ≡ executed.Done → DoesCall c za (Ld1 o)
-load-does c za o e a = go (ends (c .settings) (c .word) (stateWith c za))
+-- a done call is done by its own operation
+done-does : (c : Call) (za : List ℕ) (o : Operation) → decodedOf c ≡ Done o → outcome c za .answer ≡ executed.Done → DoesCall c za o
+done-does c za o e a = go (ends (c .settings) (c .word) (stateWith c za))
   where
-    go : Ends (c .settings) (c .word) (stateWith c za) → DoesCall c za (Ld1 o)
+    go : Ends (c .settings) (c .word) (stateWith c za) → DoesCall c za o
     go (does o′ d) = subst (DoesCall c za) (same-operation (sym (d .decoded) ∙ e)) d
     go (stays r n q) = absurd (refused-not-done r (sym n ∙ a))
+
+-- if its first place in ZA is there and is written, it does not leave ZA
+first-written : (c : Call) (za : List ℕ) (o : Operation) → decodedOf c ≡ Done o → outcome c za .answer ≡ executed.Done → (0 < c .settings .«vector_bytes» → 0 < writesOf (c .settings) (publicOf (stateWith c za)) o .za .count) → writesOf (c .settings) (publicOf (stateWith c za)) o .za .on 0 ≡ true → LeavesZa c za → ⊥
+first-written c za o q a there on (refused r e) = refused-not-done r (sym e ∙ a)
+first-written c za o q a there on (idle o′ e h) =
+    let d = done-does c za o q a in
+    let none = subst (λ (o : Operation). Idle (writesOf (c .settings) (publicOf (stateWith c za)) o .za)) (same-operation (sym e ∙ q)) h in
+    let long = five-lengths (λ B. 0 < B) (omega arith) (omega arith) (omega arith) (omega arith) (omega arith) (c .settings .«vector_bytes») (d .sized .vector) in
+    true≢false (sym on ∙ none 0 (there long))
 
 pub loads-have-places : LoadsHavePlaces
 unfolding writesOf
@@ -106,18 +112,22 @@ loads-have-places s u o = (refl, λ k. refl)
 
 pub loads-do-not-leave : LoadsDoNotLeave
 unfolding writesOf
-loads-do-not-leave c za o q a (refused r e) = refused-not-done r (sym e ∙ a)
-loads-do-not-leave c za o q a (idle o′ e h) =
-    let d = load-does c za o q a in
-    let none = subst (λ (o : Operation). Idle (writesOf (c .settings) (publicOf (stateWith c za)) o .za)) (same-operation (sym e ∙ q)) h in
-    true≢false (none 0 (five-lengths (λ B. 0 < B) (omega arith) (omega arith) (omega arith) (omega arith) (omega arith) (c .settings .«vector_bytes») (d .sized .vector)))
+loads-do-not-leave c za o q a = first-written c za (Ld1 o) q a (λ long. long) refl
+
+pub zeroing-does-not-leave : ZeroingDoesNotLeave
+unfolding writesOf
+zeroing-does-not-leave c za o q a = first-written c za (MovazFromArray o) q a (there (o .registers) _) refl
+  where
+    there : (r : RegisterCount) (B : ℕ) → 0 < B → 0 < registersOf r * B
+    there Two B h = omega arith
+    there Four B h = omega arith
 
 pub loads-zero : LoadsZero
 unfolding writesOf valuesOf effectOf
 loads-zero c za o e i q a he hi off =
     let B = c .settings .«vector_bytes» in
     let m = bytesOf (o .slice .size) in
-    let d = load-does c za o q a in
+    let d = done-does c za (Ld1 o) q a in
     let h = whole-elements (o .slice .size) B (d .sized .vector) in
     let r = decoded-in-range (c .word) (c .settings .level) (Ld1 o) (d .decoded) in
     let inactive = active-element (c .p) (o .pg * (B / 8)) m e i hi ∙ off in
@@ -147,26 +157,15 @@ unfolding run moves
 others-some [] after c za e = rw e (omega arith)
 others-some (b ∷ before) after c za e = omega (arith, others-some before after c (zaAfter b za) e, others-later (moved b za) (moves (before ++ c ∷ after) (zaAfter b za)))
 
-pub loads-stay-out : LoadsStayOut
+-- no call that is done and moves neither way is a call of a crossing list
+other-stays-out : (S B : ℕ) (size : ElementSize) (d : Direction) (t : ℕ) (before after : List Call) (c : Call) (za : List ℕ) (o : Operation) → moveOf c o ≡ other → decodedOf c ≡ Done o → outcome c (run before za) .answer ≡ executed.Done → Crosses S B size d t (before ++ c ∷ after) za → ⊥
 unfolding moved
-loads-stay-out S B size d t before after c za o e a h =
-    let is-other : moved c (run before za) ≡ some other = ap (λ (r : Executed). ifDone r none (decodedMove c (decodedOf c))) a ∙ ap (decodedMove c) e in
+other-stays-out S B size d t before after c za o m e a h =
+    let is-other : moved c (run before za) ≡ some other = ap (λ (r : Executed). ifDone r none (decodedMove c (decodedOf c))) a ∙ ap (decodedMove c) e ∙ ap some m in
     omega (arith, others-some before after c za is-other, ap others (h .order), others-none S B size d t (h .rows) (h .columns))
 
--- ---- computed
+pub loads-stay-out : LoadsStayOut
+loads-stay-out S B size d t before after c za o = other-stays-out S B size d t before after c za (Ld1 o) refl
 
-pub beside-shown : BesideShown
-unfolding table rowOfWord decodeOf isVectorLength scatter active byteOf sliceAt groupAt least writesOf valuesOf effectOf accessAnswer answerOf executeOf
-beside-shown = record { done = refl; decoded = refl; may = (tt, (tt, (tt, (tt, (tt, (tt, (tt, (tt, tt)))))))) }
-
-pub inactive-shown : InactiveShown
-unfolding table rowOfWord decodeOf isVectorLength scatter active byteOf sliceAt groupAt least writesOf valuesOf effectOf accessAnswer answerOf executeOf
-inactive-shown = record { done = refl; kept = refl }
-
-pub zeroing-writes : ZeroingWrites
-unfolding table rowOfWord decodeOf isVectorLength scatter active byteOf sliceAt groupAt least writesOf valuesOf effectOf accessAnswer answerOf executeOf
-zeroing-writes = record { done = refl; before = refl; after = refl }
-
-pub loads-write : LoadsWrite
-unfolding table rowOfWord decodeOf isVectorLength scatter active byteOf sliceAt groupAt least writesOf valuesOf effectOf accessAnswer answerOf executeOf
-loads-write = record { done = refl; before = (refl, refl); after = refl }
+pub zeroing-stays-out : ZeroingStaysOut
+zeroing-stays-out S B size d t before after c za o = other-stays-out S B size d t before after c za (MovazFromArray o) refl

@@ -6,6 +6,7 @@ use mathlib.Core.List.{List, [], _∷_, _++_}
 use mathlib.Core.Option.{Option, none, some}
 use native.Mathlib.Omega.{arith}
 use lib.ListN.{length}
+use Rattle.general.proofs.LeastLaws.{none-some}
 use Rattle.encoding.specs.declared.operation.Operation.{Operation}
 use Rattle.semantics.specs.declared.answer.Executed.{Executed}
 use Rattle.semantics.specs.State.{State}
@@ -34,9 +35,6 @@ call-ends c za = go (ends (c .settings) (c .word) (stateWith c za))
         (ap (λ (a : Executed). ifDone a none (decodedMove c (decodedOf c))) (d .answer) ∙
         ap (decodedMove c) (d .decoded))
     go (stays r n e) = rests (ap (λ (a : Executed). ifDone a none (decodedMove c (decodedOf c))) n) (ap (λ (t : State). t .za) e)
-
-pub none-some : {A : Type 0} {m : A} → none ≡ some m → ⊥
-none-some e = let z : _≡_ {A = ℕ} 0 1 = cc in omega arith
 
 pub some-same : {A : Type 0} {a b : A} → some a ≡ some b → a ≡ b
 some-same e = cc

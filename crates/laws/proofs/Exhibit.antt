@@ -1,22 +1,24 @@
 -- The theorems of specs/Exhibit.antt: each call of the list passes every check, and its own index register gives its slice.
 -- Assumes nothing.
-use Prim.Native.Nat.{ℕ, zero, suc, _+_, _*_, _/_, _%_, _^_, _<_, _≤_}
+use Prim.Native.Nat.{ℕ, zero, suc, _+_, _*_, _-_, _/_, _%_, _^_, _<_, _≤_}
 use mathlib.Core.Path.{_≡_, refl, sym, ap, _∙_, subst}
 use mathlib.Core.Bool.{true, false}
 use mathlib.Core.List.{List, [], _∷_, _++_, map, append-nil}
 use mathlib.Core.Option.{none, some}
 use mathlib.Core.Logic.{_⊎_, inl, inr}
-use native.Mathlib.Nat.{add-mod-right, mod-eq-of-lt}
+use native.Mathlib.Nat.{add-mul-mod-self-left, div-le-self, mod-eq-of-lt}
 use native.Mathlib.Omega.{arith}
 use lib.Dec.{eqb}
-use lib.ListN.{length, getD, set, replicate, length-set}
+use lib.ListN.{length, getD, set, replicate, length-set, length-replicate}
 use lib.Seq.{getD-set-same}
 use borrow.Author.Tests.{eqb-true, eqb-false}
+use Rattle.general.proofs.LeastLaws.{none-some}
 use Rattle.settings.specs.Settings.{isVectorLength, maxLevel, maxVectorBytes}
-use Rattle.settings.specs.declared.Settings.{Settings}
 use Rattle.tiles.specs.Element.{bytesOf}
-use Rattle.encoding.specs.Codec.{decodeOf, encodeOf}
+use Rattle.encoding.specs.Codec.{rowOfNumbers, decodeOf, encodeOf}
 use Rattle.encoding.specs.Answer.{encodedAnswer}
+use Rattle.encoding.specs.Flat.{flatOf}
+use Rattle.encoding.specs.Table.{table}
 use Rattle.tiles.specs.declared.element.ElementSize.{ElementSize}
 use Rattle.tiles.specs.declared.element.ElementSize.the-variants.{Bits8, Bits16, Bits32, Bits64, Bits128}
 use Rattle.tiles.specs.declared.direction.Direction.{Direction}
@@ -24,7 +26,7 @@ use Rattle.encoding.specs.declared.operation.Operation.{Operation}
 use Rattle.encoding.specs.declared.operation.Decoded.the-variants as decoded
 use Rattle.encoding.specs.declared.operation.Encoded.{Encoded}
 use Rattle.encoding.specs.declared.operation.Encoded.the-variants.{Word}
-use Rattle.encoding.proofs.Claims.{decode-inverts-encode}
+use Rattle.encoding.proofs.CodecLaws.{levelOf, encoded-decodes}
 use Rattle.encoder.specs.Steps.{offsetCount}
 use Rattle.encoder.proofs.EncoderLaws.{to-tile-encodes, from-tile-encodes}
 use Rattle.tiles.specs.Direction.{flip}
@@ -36,30 +38,56 @@ use Rattle.tiles.proofs.LengthLaws.{whole-elements}
 use Rattle.semantics.proofs.ExecuteLaws.{SizedAt, operation-answer}
 use Rattle.laws.specs.Calls.{Call, stateWith, outcome, zaAfter, run, Move, into, out, decodedOf, moveOf, decodedMove, moved, withMove, moves}
 use Rattle.laws.specs.Crossing.{occurrences, slicesOf}
-use Rattle.laws.specs.Exhibit.{inward, outward, wordFor, callOn, crossingCalls, Ready, Below, ListsExist, downFrom, OrdersExist, RefusedMayStand}
-use Rattle.laws.proofs.CallLaws.{CallEnds, moves-by, rests, call-ends, none-some, call-long, run-long}
+use Rattle.laws.specs.Exhibit.{Choice, inward, outward, wordFor, callBy, crossingCalls, Ready, Below, ListsExist, ChoicesExist, downFrom, OrdersExist, RefusedMayStand}
+use Rattle.laws.proofs.CallLaws.{CallEnds, moves-by, rests, call-ends, call-long, run-long}
 use Rattle.laws.proofs.PhaseLaws.{occurrences-here, occurrences-past}
 use Rattle.general.proofs.BoolLaws.{by-test}
 
 -- ---- words
 
--- the word of an operation that encodes decodes to it
-word-decodes : (o : Operation) (v : ℕ) → Word v ≡ encodeOf o → decodeOf (wordFor o) maxLevel ≡ decoded.Done o
-word-decodes o v e =
-    subst (λ (w : ℕ). decodeOf w maxLevel ≡ decoded.Done o) (ap (λ (x : Encoded). getD (encodedAnswer x .values) 0 0) e) (decode-inverts-encode o v (sym e) .1)
+-- the word of an operation that encodes decodes to it from the level of its row on
+word-decodes : (o : Operation) (v level : ℕ) → Word v ≡ encodeOf o → levelOf (rowOfNumbers (flatOf o)) ≤ level → level ≤ maxLevel → decodeOf (wordFor o) level ≡ decoded.Done o
+word-decodes o v level e m l =
+    subst (λ (w : ℕ). decodeOf w level ≡ decoded.Done o) (ap (λ (x : Encoded). getD (encodedAnswer x .values) 0 0) e) (encoded-decodes o v level (sym e) m l .1)
 
-offsets-some : (size : ElementSize) → 0 < offsetCount size
-offsets-some Bits8 = omega arith
-offsets-some Bits16 = omega arith
-offsets-some Bits32 = omega arith
-offsets-some Bits64 = omega arith
-offsets-some Bits128 = omega arith
+-- which is 1 into a tile, 3 out of it
+inward-level : (size : ElementSize) (d : Direction) (t : ℕ) (h : Choice) → levelOf (rowOfNumbers (flatOf (inward size d t h))) ≡ 1
+unfolding table rowOfNumbers
+inward-level Bits8 d t h = refl
+inward-level Bits16 d t h = refl
+inward-level Bits32 d t h = refl
+inward-level Bits64 d t h = refl
+inward-level Bits128 d t h = refl
 
-inward-decodes : (size : ElementSize) (d : Direction) (t : ℕ) → t < bytesOf size → decodeOf (wordFor (inward size d t)) maxLevel ≡ decoded.Done (inward size d t)
-inward-decodes size d t h = word-decodes (inward size d t) _ (to-tile-encodes d 12 0 0 t 0 size _ (omega arith, omega arith, omega arith, omega arith, h, offsets-some size) refl .equal)
+outward-level : (size : ElementSize) (d : Direction) (t : ℕ) (h : Choice) → levelOf (rowOfNumbers (flatOf (outward size d t h))) ≡ 3
+unfolding table rowOfNumbers
+outward-level Bits8 d t h = refl
+outward-level Bits16 d t h = refl
+outward-level Bits32 d t h = refl
+outward-level Bits64 d t h = refl
+outward-level Bits128 d t h = refl
 
-outward-decodes : (size : ElementSize) (d : Direction) (t : ℕ) → t < bytesOf size → decodeOf (wordFor (outward size d t)) maxLevel ≡ decoded.Done (outward size d t)
-outward-decodes size d t h = word-decodes (outward size d t) _ (from-tile-encodes d 0 12 t 0 0 true size _ (omega arith, omega arith, omega arith, h, offsets-some size, omega arith) refl .equal)
+-- how many offsets a word can name
+offsets-counted : (size : ElementSize) → 16 / bytesOf size ≡ offsetCount size
+offsets-counted Bits8 = refl
+offsets-counted Bits16 = refl
+offsets-counted Bits32 = refl
+offsets-counted Bits64 = refl
+offsets-counted Bits128 = refl
+
+-- the words of ready choices
+module _ (B : ℕ) (size : ElementSize) (d : Direction) (t : ℕ) (tile : t < bytesOf size) (k : ℕ) (h : Choice) where
+  pub inward-decodes : Ready 1 B size k h → decodedOf (callBy (inward size d t) h) ≡ decoded.Done (inward size d t h)
+  inward-decodes ready =
+      word-decodes (inward size d t h) _ (h .settings .level)
+      (to-tile-encodes d (h .index) (h .predicate) (h .register) t (h .offset) size _ (omega (arith, offsets-counted size)) refl .equal)
+      (omega (arith, inward-level size d t h, ready .level)) (ready .level .1)
+
+  pub outward-decodes : Ready 3 B size k h → decodedOf (callBy (outward size d t) h) ≡ decoded.Done (outward size d t h)
+  outward-decodes ready =
+      word-decodes (outward size d t h) _ (h .settings .level)
+      (from-tile-encodes d 0 (h .index) t (h .offset) (h .register) true size _ (omega (arith, offsets-counted size)) refl .equal)
+      (omega (arith, outward-level size d t h, ready .level)) (ready .level .1)
 
 -- ---- orders
 
@@ -92,28 +120,65 @@ down-once (suc n) k h = go (by-test (eqb n k)) (down-once n k)
 pub orders-exist : OrdersExist
 orders-exist n = (record { many = down-length n; once = down-once n }, down-below n)
 
+-- ---- choices
+
+-- k + n * 16 less an offset, in the index register, gives slice k of n with that offset
+selects : (n k index offset : ℕ) → k < n → n ≤ maxVectorBytes → index ≤ 15 → offset < 16 → (getD (set (replicate 32 0) index (k + n * 16 - offset)) index 0 % 2 ^ 32 + offset) % n ≡ k
+selects n k index offset h few low small =
+    rw (getD-set-same (replicate 32 0) index (k + n * 16 - offset) 0 (omega arith))
+    (ap (λ (w : ℕ). (w + offset) % n) (mod-eq-of-lt below) ∙ ap (λ (w : ℕ). w % n) again ∙ add-mul-mod-self-left k n 16 ∙ mod-eq-of-lt h)
+  where
+    below : k + n * 16 - offset < 2 ^ 32
+    below = omega arith
+
+    again : k + n * 16 - offset + offset ≡ k + n * 16
+    again = omega arith
+
+pub choices-exist : ChoicesExist
+choices-exist least B level size k index offset predicate register valid from upTo h low high o p r =
+    record {
+      vector = refl;
+      level = (from, upTo);
+      streaming = refl;
+      za = refl;
+      indices = (low, high);
+      offsets = o;
+      predicates = p;
+      registers = r;
+      slice = selects (slicesOf B size) k index offset h (whole-elements size B valid .few) high (omega (arith, div-le-self 16 (bytesOf size)));
+      xs = length-set (replicate 32 0) index _;
+      zs = length-replicate (32 * B) 0;
+      ps = length-replicate (16 * (B / 8)) 255;
+      memory = omega arith;
+    }
+
 -- ---- one call
 
--- the index register k + n gives slice k of n
-selects : (n k : ℕ) → k < n → n ≤ maxVectorBytes → selected (set (replicate 32 0) 12 (k + n)) 12 0 n ≡ k
-selects n k h few =
-    rw (getD-set-same (replicate 32 0) 12 (k + n) 0 (omega arith))
-    (ap (λ (w : ℕ). (w + 0) % n) (mod-eq-of-lt small) ∙ ap (λ (w : ℕ). w % n) (omega arith) ∙ add-mod-right k n ∙ mod-eq-of-lt h)
-  where
-    small : k + n < 2 ^ 32
-    small = omega arith
-
-module _ (B n : ℕ) (ss : ℕ → Settings) (zs ps : ℕ → List ℕ) (valid : isVectorLength B ≡ true) (k : ℕ) (ready : Ready B (ss k) (zs k) (ps k)) (za : List ℕ) (long : length za ≡ B * B) where
+module _ (B : ℕ) (size : ElementSize) (valid : isVectorLength B ≡ true) (k : ℕ) (h : Choice) (za : List ℕ) (long : length za ≡ B * B) where
   -- a call whose operation is never refused is done
-  call-done : (o : Operation) → decodeOf (wordFor o) maxLevel ≡ decoded.Done o → operationAnswer (ss k) (set (replicate 32 0) 12 (k + n)) (ps k) 0 o ≡ Done → moved (callOn n o ss zs ps k) za ≡ some (moveOf (callOn n o ss zs ps k) o)
+  call-done : (least : ℕ) → Ready least B size k h → (o : Choice → Operation) → decodedOf (callBy o h) ≡ decoded.Done (o h) → operationAnswer (h .settings) (h .x) (h .p) (length (h .memory)) (o h) ≡ Done → moved (callBy o h) za ≡ some (moveOf (callBy o h) (o h))
   unfolding moved
-  call-done o means ans =
-      let c = callOn n o ss zs ps k in
-      let decodes : decodedOf c ≡ decoded.Done o = ap (decodeOf (wordFor o)) (ready .level) ∙ means in
-      let sized : SizedAt (ss k) (stateWith c za) =
-      record { vector = rw (ready .vector) valid; level = omega (arith, ready .level); x = length-set (replicate 32 0) 12 (k + n); z = rw (ready .vector) (ready .vectors); p = rw (ready .vector) (ready .predicates); za = rw (ready .vector) long; memory = omega (arith, ready .address) } in
-      ap (λ (a : Executed). ifDone a none (decodedMove c (decodedOf c))) (operation-answer (ss k) (wordFor o) (stateWith c za) o sized decodes (ready .streaming) (ready .za) ∙ ans) ∙
+  call-done least ready o decodes ans =
+      let c = callBy o h in
+      let sized : SizedAt (h .settings) (stateWith c za) =
+      record { vector = rw (ready .vector) valid; level = ready .level .1; x = ready .xs; z = rw (ready .vector) (ready .zs); p = rw (ready .vector) (ready .ps); za = rw (ready .vector) long; memory = ready .memory } in
+      ap (λ (a : Executed). ifDone a none (decodedMove c (decodedOf c))) (operation-answer (h .settings) (wordFor (o h)) (stateWith c za) (o h) sized decodes (ready .streaming) (ready .za) ∙ ans) ∙
       ap (decodedMove c) decodes
+
+  module _ (d : Direction) (t : ℕ) (tile : t < bytesOf size) where
+    -- the call of a ready choice moves into its slice
+    pub goes-in : Ready 1 B size k h → moved (callBy (inward size d t) h) za ≡ some (into B B size d t k)
+    goes-in ready =
+        call-done 1 ready (inward size d t) (inward-decodes B size d t tile k h ready) refl ∙
+        ap (λ (b : ℕ). some (into b b size d t (selected (h .x) (h .index) (h .offset) (b / bytesOf size)))) (ready .vector) ∙
+        ap (λ (j : ℕ). some (into B B size d t j)) (ready .slice)
+
+    -- or out of it
+    pub comes-out : Ready 3 B size k h → moved (callBy (outward size d t) h) za ≡ some (out B B size d t k)
+    comes-out ready =
+        call-done 3 ready (outward size d t) (outward-decodes B size d t tile k h ready) refl ∙
+        ap (λ (b : ℕ). some (out b b size d t (selected (h .x) (h .index) (h .offset) (b / bytesOf size)))) (ready .vector) ∙
+        ap (λ (j : ℕ). some (out B B size d t j)) (ready .slice)
 
 -- the moves of calls on slices below n, each of which is done with its own move at any ZA of a length
 list-moves : (n long : ℕ) (call : ℕ → Call) (f : ℕ → Move) → ((k : ℕ) (za : List ℕ) → k < n → length za ≡ long → moved (call k) za ≡ some (f k)) → (l : List ℕ) (rest : List Call) (za : List ℕ) → Below n l → length za ≡ long → moves (map call l ++ rest) za ≡ map f l ++ moves rest (run (map call l) za)
@@ -127,32 +192,17 @@ list-moves n long call f h (x ∷ l) rest za b e =
 
 pub lists-exist : ListsExist
 unfolding moves
-lists-exist B size d t ss zs ps rows columns za valid tile ready long-za eachRow belowRow eachColumn belowColumn =
+lists-exist B size d t ins outs rows columns za valid tile long-za readyIn readyOut eachRow belowRow eachColumn belowColumn =
     record { rows = rows; columns = columns; order = order; eachRow = eachRow; eachColumn = eachColumn }
   where
     n : ℕ
     n = slicesOf B size
 
-    few : n ≤ maxVectorBytes
-    few = whole-elements size B valid .few
-
     inCall : ℕ → Call
-    inCall = callOn n (inward size d t) ss zs ps
+    inCall k = callBy (inward size d t) (ins k)
 
     outCall : ℕ → Call
-    outCall = callOn n (outward size (flip d) t) ss zs ps
-
-    goes-in : (k : ℕ) (a : List ℕ) → k < n → length a ≡ B * B → moved (inCall k) a ≡ some (into B B size d t k)
-    goes-in k a h e =
-        call-done B n ss zs ps valid k (ready k h) a e (inward size d t) (inward-decodes size d t tile) refl ∙
-        ap (λ (b : ℕ). some (into b b size d t (selected (set (replicate 32 0) 12 (k + n)) 12 0 (b / bytesOf size)))) (ready k h .vector) ∙
-        ap (λ (j : ℕ). some (into B B size d t j)) (selects n k h few)
-
-    comes-out : (k : ℕ) (a : List ℕ) → k < n → length a ≡ B * B → moved (outCall k) a ≡ some (out B B size (flip d) t k)
-    comes-out k a h e =
-        call-done B n ss zs ps valid k (ready k h) a e (outward size (flip d) t) (outward-decodes size (flip d) t tile) refl ∙
-        ap (λ (b : ℕ). some (out b b size (flip d) t (selected (set (replicate 32 0) 12 (k + n)) 12 0 (b / bytesOf size)))) (ready k h .vector) ∙
-        ap (λ (j : ℕ). some (out B B size (flip d) t j)) (selects n k h few)
+    outCall k = callBy (outward size (flip d) t) (outs k)
 
     za₁ : List ℕ
     za₁ = run (map inCall rows) za
@@ -161,12 +211,12 @@ lists-exist B size d t ss zs ps rows columns za valid tile ready long-za eachRow
     last : moves (map outCall columns) za₁ ≡ map (out B B size (flip d) t) columns
     last =
         ap (λ (l : List Call). moves l za₁) (sym (append-nil (map outCall columns))) ∙
-        list-moves n (B * B) outCall (out B B size (flip d) t) comes-out columns [] za₁ belowColumn (run-long (map inCall rows) za ∙ long-za) ∙
+        list-moves n (B * B) outCall (out B B size (flip d) t) (λ k a h e. comes-out B size valid k (outs k) a e (flip d) t tile (readyOut k h)) columns [] za₁ belowColumn (run-long (map inCall rows) za ∙ long-za) ∙
         append-nil (map (out B B size (flip d) t) columns)
 
-    order : moves (crossingCalls n size d t ss zs ps rows columns) za ≡ map (into B B size d t) rows ++ map (out B B size (flip d) t) columns
+    order : moves (crossingCalls size d t ins outs rows columns) za ≡ map (into B B size d t) rows ++ map (out B B size (flip d) t) columns
     order =
-        list-moves n (B * B) inCall (into B B size d t) goes-in rows (map outCall columns) za belowRow long-za ∙
+        list-moves n (B * B) inCall (into B B size d t) (λ k a h e. goes-in B size valid k (ins k) a e d t tile (readyIn k h)) rows (map outCall columns) za belowRow long-za ∙
         ap (λ (l : List Move). map (into B B size d t) rows ++ l) last
 
 -- ---- refused calls

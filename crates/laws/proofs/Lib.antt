@@ -6,3 +6,6 @@ pub mod Crossing
 pub mod Between
 pub mod Shown
 pub mod Runs
+pub mod Drawn
+pub mod BesideShown
+pub mod LoadsShown

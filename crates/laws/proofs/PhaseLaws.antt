@@ -11,6 +11,7 @@ use native.Mathlib.Omega.{arith}
 use lib.Dec.{eqb}
 use lib.ListN.{getD}
 use borrow.Author.Tests.{eqb-true, eqb-false, eq-eqb, ne-eqb}
+use Rattle.general.proofs.LeastLaws.{none-some}
 use Rattle.general.proofs.BoolLaws.{by-test}
 use Rattle.tiles.specs.declared.direction.Direction.{Direction}
 use Rattle.general.specs.Scatter.{scatter}
@@ -18,7 +19,7 @@ use Rattle.tiles.specs.Tile.{byteOf, sliceAt, Outside}
 use Rattle.tiles.proofs.SliceLaws.{written-beside, written-outside}
 use Rattle.laws.specs.Calls.{Call, zaAfter, run, Move, moveOf, moved, moves}
 use Rattle.laws.specs.Crossing.{occurrences}
-use Rattle.laws.proofs.CallLaws.{CallEnds, moves-by, rests, call-ends, none-some, some-same, cons-same, nil-cons}
+use Rattle.laws.proofs.CallLaws.{CallEnds, moves-by, rests, call-ends, some-same, cons-same, nil-cons}
 
 -- ---- a list of calls with the slices that its moves name
 

@@ -32,8 +32,8 @@ slicesOf B size = B / bytesOf size
 
 -- Which lists of calls are meant: with whatever refused calls between them, the done calls move first into the slices of one
 -- tile in direction d, each once, and then out of its slices in the other direction, each once, all with vectors B bytes long
--- that start S bytes apart. Nothing else is assumed: each call has settings of its own, a done move and zero itself shows that
--- its level is 3, and a done call that its switches are on and its lengths and registers right.
+-- that start S bytes apart. Nothing else is assumed: each call has settings of its own, a done move shows that its level is from
+-- 1 to 3, a done move and zero that it is 3, and a done call that its switches are on and its lengths and registers right.
 pub record Crosses (S B : ℕ) (size : ElementSize) (d : Direction) (t : ℕ) (cs : List Call) (za : List ℕ) : Type 0 where
   pub rows : List ℕ
   pub columns : List ℕ

@@ -1,69 +1,119 @@
 -- Lists of calls to which the crossing law applies, so that it is seen not to be empty: for every vector length, element size,
--- tile and direction, every order of the slices, and any content of ZA, of the vectors and of the predicates; and refused calls
--- of every answer in them.
+-- tile and direction, every order of the slices, every index register, offset, predicate and vector register that a word can
+-- name, every level at which its word decodes (1 to 3 into a tile, 3 out of it), and any content of X, of the vectors, of the
+-- predicates, of memory and of ZA; and refused calls in them.
 -- Assumes nothing.
-use Prim.Native.Nat.{ℕ, zero, suc, _+_, _*_, _/_, _^_, _<_, _≤_}
+use Prim.Native.Nat.{ℕ, zero, suc, _+_, _*_, _-_, _/_, _%_, _^_, _<_, _≤_}
 use mathlib.Core.Path.{_≡_}
-use mathlib.Core.Bool.{true, false}
+use mathlib.Core.Bool.{true}
 use mathlib.Core.List.{List, [], _∷_, _++_, map}
-use lib.ListN.{length, set, replicate}
+use lib.ListN.{length, getD, set, replicate}
 use Rattle.settings.specs.Settings.{isVectorLength, maxLevel, settingsOf}
 use Rattle.settings.specs.declared.Settings.{Settings}
 use Rattle.tiles.specs.Element.{bytesOf}
 use Rattle.encoding.specs.Answer.{encodedWord}
 use Rattle.encoding.specs.Codec.{encodeOf}
 use Rattle.tiles.specs.declared.element.ElementSize.{ElementSize}
-use Rattle.tiles.specs.declared.element.ElementSize.the-variants.{Bits32}
 use Rattle.tiles.specs.declared.direction.Direction.{Direction}
-use Rattle.tiles.specs.declared.direction.Direction.the-variants.{Horizontal, Vertical}
 use Rattle.encoding.specs.declared.operation.Operation.{Operation}
 use Rattle.encoding.specs.declared.operation.Operation.the-variants.{MovaToTile, MovazFromTile}
 use Rattle.tiles.specs.Direction.{flip}
 use Rattle.semantics.specs.declared.answer.Executed.the-variants.{Done}
-use Rattle.semantics.specs.ExampleBuffers.{bytesFrom, switched, settingsAt, zaAt}
-use Rattle.laws.specs.Calls.{Call, outcome, run, numbersAt}
+use Rattle.semantics.specs.ExampleBuffers.{switched}
+use Rattle.laws.specs.Calls.{Call, outcome, run}
 use Rattle.laws.specs.Crossing.{EachOnce, slicesOf, Crosses}
 
--- the words: index register 12 with offset 0, predicate 0, register 0
-abbrev pub inward : ElementSize → Direction → ℕ → Operation
-inward size d t = MovaToTile (record { slice = record { size = size; direction = d; index = 12; tile = t; offset = 0 }; pg = 0; zn = 0 })
+-- what such a call may choose: the numbers in its word, beside size, direction and tile, and all that it is handed
+pub record Choice : Type 0 where
+  pub index : ℕ
+  pub offset : ℕ
+  pub predicate : ℕ
+  pub register : ℕ
+  pub settings : Settings
+  pub x : List ℕ
+  pub z : List ℕ
+  pub p : List ℕ
+  pub memory : List ℕ
 
-abbrev pub outward : ElementSize → Direction → ℕ → Operation
-outward size d t = MovazFromTile (record { slice = record { size = size; direction = d; index = 12; tile = t; offset = 0 }; zd = 0 })
+-- the moves; one out of a tile with zeroing names no predicate
+abbrev pub inward : ElementSize → Direction → ℕ → Choice → Operation
+inward size d t h =
+    MovaToTile (record { slice = record { size = size; direction = d; index = h .index; tile = t; offset = h .offset }; pg = h .predicate; zn = h .register })
+
+abbrev pub outward : ElementSize → Direction → ℕ → Choice → Operation
+outward size d t h = MovazFromTile (record { slice = record { size = size; direction = d; index = h .index; tile = t; offset = h .offset }; zd = h .register })
 
 abbrev pub wordFor : Operation → ℕ
 wordFor o = encodedWord (encodeOf o)
 
--- a call on slice k: the index register holds k + n; its own settings, vectors and predicates, and no memory
-abbrev pub callOn : ℕ → Operation → (ℕ → Settings) → (ℕ → List ℕ) → (ℕ → List ℕ) → ℕ → Call
-callOn n o ss zs ps k = record { settings = ss k; word = wordFor o; x = set (replicate 32 0) 12 (k + n); z = zs k; p = ps k; memory = [] }
+abbrev pub callBy : (Choice → Operation) → Choice → Call
+callBy o h = record { settings = h .settings; word = wordFor (o h); x = h .x; z = h .z; p = h .p; memory = h .memory }
 
-abbrev pub crossingCalls : ℕ → ElementSize → Direction → ℕ → (ℕ → Settings) → (ℕ → List ℕ) → (ℕ → List ℕ) → List ℕ → List ℕ → List Call
-crossingCalls n size d t ss zs ps rows columns =
-    map (callOn n (inward size d t) ss zs ps) rows ++ map (callOn n (outward size (flip d) t) ss zs ps) columns
+-- rows in, and columns out in the other direction, in an order of each: the calls on row k and on column k have choices of their own
+abbrev pub callsIn : ElementSize → Direction → ℕ → (ℕ → Choice) → List ℕ → List Call
+callsIn size d t ins rows = map (λ (k : ℕ). callBy (inward size d t) (ins k)) rows
 
--- what such a call needs so as to be done with vectors of B bytes
-pub record Ready (B : ℕ) (s : Settings) (z p : List ℕ) : Type 0 where
-  pub vector : s .«vector_bytes» ≡ B
-  pub level : s .level ≡ maxLevel
-  pub streaming : s .streaming ≡ true
-  pub za : s .za ≡ true
-  pub address : s .«memory_address» ≤ 2 ^ 64
-  pub vectors : length z ≡ 32 * B
-  pub predicates : length p ≡ 16 * (B / 8)
+abbrev pub callsOut : ElementSize → Direction → ℕ → (ℕ → Choice) → List ℕ → List Call
+callsOut size d t outs columns = map (λ (k : ℕ). callBy (outward size (flip d) t) (outs k)) columns
+
+abbrev pub crossingCalls : ElementSize → Direction → ℕ → (ℕ → Choice) → (ℕ → Choice) → List ℕ → List ℕ → List Call
+crossingCalls size d t ins outs rows columns = callsIn size d t ins rows ++ callsOut size d t outs columns
+
+-- what a call needs so as to be done with vectors of B bytes, and to be on slice k; its word decodes from a least level on
+pub record Ready (least B : ℕ) (size : ElementSize) (k : ℕ) (h : Choice) : Type 0 where
+  pub vector : h .settings .«vector_bytes» ≡ B
+  pub level : (least ≤ h .settings .level) × (h .settings .level ≤ maxLevel)
+  pub streaming : h .settings .streaming ≡ true
+  pub za : h .settings .za ≡ true
+  -- a word can name them
+  pub indices : (12 ≤ h .index) × (h .index ≤ 15)
+  pub offsets : h .offset < 16 / bytesOf size
+  pub predicates : h .predicate < 8
+  pub registers : h .register < 32
+  -- the slice is k, whatever the index register has above its low 32 bits
+  pub slice : (getD (h .x) (h .index) 0 % 2 ^ 32 + h .offset) % slicesOf B size ≡ k
+  -- the lengths are right
+  pub xs : length (h .x) ≡ 32
+  pub zs : length (h .z) ≡ 32 * B
+  pub ps : length (h .p) ≡ 16 * (B / 8)
+  pub memory : h .settings .«memory_address» + length (h .memory) ≤ 2 ^ 64
 
 -- every number of a list is below n
 abbrev pub Below : ℕ → List ℕ → Type 0
 Below n [] = Unit {0}
 Below n (x ∷ l) = (x < n) × Below n l
 
--- such calls, in any order of the slices, are a list that is meant; vectors start as far apart as they are long
+-- such calls, in any order of the slices, are a list that is meant: each with a level of its own, from 1 on into the tile and 3 out of it; vectors
+-- start as far apart as they are long
 abbrev pub ListsExist : Type 0
 ListsExist =
-    (B : ℕ) (size : ElementSize) (d : Direction) (t : ℕ) (ss : ℕ → Settings) (zs ps : ℕ → List ℕ) (rows columns za : List ℕ) →
-    isVectorLength B ≡ true → t < bytesOf size → ((k : ℕ) → k < slicesOf B size → Ready B (ss k) (zs k) (ps k)) → length za ≡ B * B →
+    (B : ℕ) (size : ElementSize) (d : Direction) (t : ℕ) (ins outs : ℕ → Choice) (rows columns za : List ℕ) →
+    isVectorLength B ≡ true → t < bytesOf size → length za ≡ B * B →
+    ((k : ℕ) → k < slicesOf B size → Ready 1 B size k (ins k)) → ((k : ℕ) → k < slicesOf B size → Ready 3 B size k (outs k)) →
     EachOnce (slicesOf B size) rows → Below (slicesOf B size) rows → EachOnce (slicesOf B size) columns → Below (slicesOf B size) columns →
-    Crosses B B size d t (crossingCalls (slicesOf B size) size d t ss zs ps rows columns) za
+    Crosses B B size d t (crossingCalls size d t ins outs rows columns) za
+
+-- for every slice there are such choices, whichever level they have and index register, offset, predicate and vector register they name: here with
+-- an X that is zero but for the index register
+abbrev pub choiceOf : ℕ → ℕ → ElementSize → ℕ → ℕ → ℕ → ℕ → ℕ → Choice
+choiceOf B level size k index offset predicate register =
+    record {
+      index = index;
+      offset = offset;
+      predicate = predicate;
+      register = register;
+      settings = switched (settingsOf B level) true true;
+      x = set (replicate 32 0) index (k + slicesOf B size * 16 - offset);
+      z = replicate (32 * B) 0;
+      p = replicate (16 * (B / 8)) 255;
+      memory = [];
+    }
+
+abbrev pub ChoicesExist : Type 0
+ChoicesExist =
+    (least B level : ℕ) (size : ElementSize) (k index offset predicate register : ℕ) → isVectorLength B ≡ true → least ≤ level → level ≤ maxLevel →
+    k < slicesOf B size → 12 ≤ index → index ≤ 15 → offset < 16 / bytesOf size → predicate < 8 → register < 32 →
+    Ready least B size k (choiceOf B level size k index offset predicate register)
 
 -- an order of the slices: downwards
 abbrev pub downFrom : ℕ → List ℕ
@@ -78,53 +128,3 @@ abbrev pub RefusedMayStand : Type 0
 RefusedMayStand =
     (S B : ℕ) (size : ElementSize) (d : Direction) (t : ℕ) (before after : List Call) (c : Call) (za : List ℕ) →
     Crosses S B size d t (before ++ after) za → (outcome c (run before za) .answer ≡ Done → ⊥) → Crosses S B size d t (before ++ c ∷ after) za
-
--- ---- one list in full: vectors of 32 bytes, four-byte elements, tile 1, slices in no order, partial predicates, bytes of ZA that
--- are not zero and differ from their neighbours, and refused calls
-
-abbrev pub shownRows : List ℕ
-shownRows = 3 ∷ 0 ∷ 6 ∷ 1 ∷ 7 ∷ 4 ∷ 2 ∷ 5 ∷ []
-
-abbrev pub shownColumns : List ℕ
-shownColumns = 5 ∷ 2 ∷ 0 ∷ 7 ∷ 3 ∷ 6 ∷ 1 ∷ 4 ∷ []
-
--- each call has a memory address, vectors and predicates of its own
-abbrev pub shownSettings : ℕ → Settings
-shownSettings k = settingsAt 32 k
-
-abbrev pub shownZ : ℕ → List ℕ
-shownZ k = bytesFrom k 1024
-
-abbrev pub shownP : ℕ → List ℕ
-shownP k = bytesFrom k 64
-
-abbrev pub refusedAt : Settings → ℕ → List ℕ → Call
-refusedAt s w x = record { settings = s; word = w; x = x; z = shownZ 0; p = shownP 0; memory = [] }
-
--- vectors of 17 bytes; too few numbers in X; a word that is no instruction; streaming off; ZA off; a stack pointer that is no
--- multiple of 16; an active store with no memory; loads in place of these two stores
-abbrev pub refusedCalls : List Call
-refusedCalls =
-    refusedAt (settingsAt 17 0) 0xC0000000 (replicate 32 0) ∷
-    refusedAt (settingsAt 32 0) 0xC0000000 [] ∷
-    refusedAt (settingsAt 32 0) 0xC0000010 (replicate 32 0) ∷
-    refusedAt (switched (settingsOf 32 3) false true) 0xC0000000 (replicate 32 0) ∷
-    refusedAt (switched (settingsOf 32 3) true false) 0xC0000000 (replicate 32 0) ∷
-    refusedAt (settingsAt 32 0) 0xE03F03E0 (set (replicate 32 0) 31 0x1008) ∷
-    refusedAt (settingsAt 32 0) 0xE0220020 (replicate 32 0) ∷
-    refusedAt (settingsAt 32 0) 0xE01F03E0 (set (replicate 32 0) 31 0x1008) ∷
-    refusedAt (settingsAt 32 0) 0xE0C20020 (replicate 32 0) ∷ []
-
--- they are refused with 1 to 7 in turn, the loads with 6 and 7 too, at any ZA of the right length
-abbrev pub RefusalsShown : Type 0
-RefusalsShown = (za : List ℕ) → length za ≡ 1024 → numbersAt refusedCalls za ≡ 1 ∷ 2 ∷ 3 ∷ 4 ∷ 5 ∷ 6 ∷ 7 ∷ 6 ∷ 7 ∷ []
-
--- the list, with those before, between and after its moves
-abbrev pub shownIn : List Call
-shownIn = map (callOn 8 (inward Bits32 Horizontal 1) shownSettings shownZ shownP) shownRows
-
-abbrev pub shownOut : List Call
-shownOut = map (callOn 8 (outward Bits32 Vertical 1) shownSettings shownZ shownP) shownColumns
-
-abbrev pub ListShown : Type 0
-ListShown = Crosses 32 32 Bits32 Horizontal 1 (refusedCalls ++ (shownIn ++ (refusedCalls ++ (shownOut ++ (refusedCalls ++ []))))) (zaAt 32)
