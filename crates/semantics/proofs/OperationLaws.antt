@@ -48,7 +48,7 @@ use Rattle.semantics.specs.State.{State}
 use Rattle.semantics.specs.Access.{baseOf, offsetOf, addressOf, inMemory}
 use Rattle.semantics.specs.Effect.{sliceByte, groupIn, groupByte, memoryByte, activeUnder, registersByte, writesOf, sliceValue, groupValue, registerValue, loadedValue, valuesOf, effectOf}
 use Rattle.semantics.specs.Execute.{faulting, faultOf, faultAnswer, stackBad, accessAnswer, operationAnswer}
-use Rattle.semantics.specs.Operations.{tileByte, elementsIn, sliceNumberIn, inSlice, inRegister, Active, EachByte, firstVector, inGroup, inRegisters, EachVector, addressIn, OthersStay, ToTile, FromTileZeroing, FromTile, TakesVectors, FromArray, FromArrayZeroing, ToMemory, FromMemory, Means}
+use Rattle.semantics.specs.Operations.{tileByte, elementsIn, sliceNumberIn, inSlice, inRegister, Active, EachByte, firstVector, inGroup, inRegisters, EachVector, addressIn, ActiveInside, OthersStay, ToTile, FromTileZeroing, FromTile, TakesVectors, FromArray, FromArrayZeroing, ToMemory, FromMemory, Means}
 use Rattle.semantics.proofs.ExecuteLaws.{refused-not-done, guard-done, SizedAt}
 
 -- a choice by a test that passes, and by one that fails
@@ -68,10 +68,10 @@ tile-byte S m t Vertical j e i = refl
 
 -- what a done execution says of a slice
 record SliceFits (s : Settings) (t : State) (o : TileSlice) : Type 0 where
-  whole : elementsIn s t o * bytesOf (o .size) ≡ s .«vector_bytes»
+  whole : elementsIn s o * bytesOf (o .size) ≡ s .«vector_bytes»
   apart : s .«vector_bytes» ≤ strideOf s
   tile : o .tile < bytesOf (o .size)
-  number : sliceNumberIn s t o < elementsIn s t o
+  number : sliceNumberIn s t o < elementsIn s o
   long : s .«vector_bytes» * strideOf s ≤ length (t .za)
 
 slice-fits : (s : Settings) (t : State) (o : TileSlice) → SizedAt s t → SliceInRange o → SliceFits s t o
@@ -92,37 +92,37 @@ module _ (s : Settings) (t : State) (o : TileSlice) where
 
   element-byte : SliceFits s t o → (e i : ℕ) → i < bytesOf (o .size) → sliceByte s (t .x) o (e * bytesOf (o .size) + i) ≡ inSlice s t o e i
   element-byte fits e i h =
-      sliceAt-element (strideOf s) (s .«vector_bytes») (bytesOf (o .size)) (elementsIn s t o) (fits .whole) (fits .apart) (o .tile) (fits .tile) (o .direction) (sliceNumberIn s t o) e i h ∙
+      sliceAt-element (strideOf s) (s .«vector_bytes») (bytesOf (o .size)) (elementsIn s o) (fits .whole) (fits .apart) (o .tile) (fits .tile) (o .direction) (sliceNumberIn s t o) e i h ∙
       tile-byte (strideOf s) (bytesOf (o .size)) (o .tile) (o .direction) (sliceNumberIn s t o) e i
 
   module _ (fits : SliceFits s t o) (on : ℕ → Bool) (val : ℕ → ℕ) where
-    slice-at : (e i : ℕ) → e < elementsIn s t o → i < bytesOf (o .size) → getD (scatter (sliceByte s (t .x) o) on val (s .«vector_bytes») (t .za)) (inSlice s t o e i) 0 ≡ cond (on (e * bytesOf (o .size) + i)) (val (e * bytesOf (o .size) + i)) (getD (t .za) (inSlice s t o e i) 0)
+    slice-at : (e i : ℕ) → e < elementsIn s o → i < bytesOf (o .size) → getD (scatter (sliceByte s (t .x) o) on val (s .«vector_bytes») (t .za)) (inSlice s t o e i) 0 ≡ cond (on (e * bytesOf (o .size) + i)) (val (e * bytesOf (o .size) + i)) (getD (t .za) (inSlice s t o e i) 0)
     slice-at e i he hi =
         rw (← tile-byte (strideOf s) (bytesOf (o .size)) (o .tile) (o .direction) (sliceNumberIn s t o) e i)
-        (written-at (strideOf s) (s .«vector_bytes») (bytesOf (o .size)) (elementsIn s t o) (fits .whole) (fits .apart) (o .tile) (fits .tile) (o .direction) on val (t .za) (sliceNumberIn s t o) e i (fits .long) (fits .number) he hi)
+        (written-at (strideOf s) (s .«vector_bytes») (bytesOf (o .size)) (elementsIn s o) (fits .whole) (fits .apart) (o .tile) (fits .tile) (o .direction) on val (t .za) (sliceNumberIn s t o) e i (fits .long) (fits .number) he hi)
 
-    slice-beside : OthersStay (λ q. EachByte s t o (λ e i. q ≡ inSlice s t o e i → ⊥)) (t .za) (scatter (sliceByte s (t .x) o) on val (s .«vector_bytes») (t .za))
+    slice-beside : OthersStay (λ q. EachByte s o (λ e i. q ≡ inSlice s t o e i → ⊥)) (t .za) (scatter (sliceByte s (t .x) o) on val (s .«vector_bytes») (t .za))
     unfolding sliceAt
     slice-beside q h =
         getD-scatter-other (sliceByte s (t .x) o) on val (s .«vector_bytes») (t .za) q
         (λ k w y e. h (k / bytesOf (o .size)) (k % bytesOf (o .size))
-        (element-within (strideOf s) (s .«vector_bytes») (bytesOf (o .size)) (elementsIn s t o) (fits .whole) (fits .apart) (o .tile) (fits .tile) k w)
-        (byte-within (strideOf s) (s .«vector_bytes») (bytesOf (o .size)) (elementsIn s t o) (fits .whole) (fits .apart) (o .tile) (fits .tile) k)
+        (element-within (strideOf s) (s .«vector_bytes») (bytesOf (o .size)) (elementsIn s o) (fits .whole) (fits .apart) (o .tile) (fits .tile) k w)
+        (byte-within (strideOf s) (s .«vector_bytes») (bytesOf (o .size)) (elementsIn s o) (fits .whole) (fits .apart) (o .tile) (fits .tile) k)
         (e ∙ tile-byte (strideOf s) (bytesOf (o .size)) (o .tile) (o .direction) (sliceNumberIn s t o) (k / bytesOf (o .size)) (k % bytesOf (o .size))))
 
     -- ---- a register
 
-    register-at : (v e i : ℕ) → v * strideOf s + s .«vector_bytes» ≤ length (t .z) → e < elementsIn s t o → i < bytesOf (o .size) → getD (scatter (onwards (v * strideOf s)) on val (s .«vector_bytes») (t .z)) (inRegister s t o v e i) 0 ≡ cond (on (e * bytesOf (o .size) + i)) (val (e * bytesOf (o .size) + i)) (getD (t .z) (inRegister s t o v e i) 0)
+    register-at : (v e i : ℕ) → v * strideOf s + s .«vector_bytes» ≤ length (t .z) → e < elementsIn s o → i < bytesOf (o .size) → getD (scatter (onwards (v * strideOf s)) on val (s .«vector_bytes») (t .z)) (inRegister s o v e i) 0 ≡ cond (on (e * bytesOf (o .size) + i)) (val (e * bytesOf (o .size) + i)) (getD (t .z) (inRegister s o v e i) 0)
     register-at v e i room he hi =
         let k : e * bytesOf (o .size) + i < s .«vector_bytes» = rw (← fits .whole) (digits-lt he hi) in
         getD-scatter (onwards (v * strideOf s)) on val (s .«vector_bytes») (t .z) (e * bytesOf (o .size) + i) k (omega arith) (λ j w y ne q. ne (omega arith))
 
-    register-beside : (v : ℕ) → OthersStay (λ q. EachByte s t o (λ e i. q ≡ inRegister s t o v e i → ⊥)) (t .z) (scatter (onwards (v * strideOf s)) on val (s .«vector_bytes») (t .z))
+    register-beside : (v : ℕ) → OthersStay (λ q. EachByte s o (λ e i. q ≡ inRegister s o v e i → ⊥)) (t .z) (scatter (onwards (v * strideOf s)) on val (s .«vector_bytes») (t .z))
     register-beside v q h =
         getD-scatter-other (onwards (v * strideOf s)) on val (s .«vector_bytes») (t .z) q
         (λ k w y e. h (k / bytesOf (o .size)) (k % bytesOf (o .size))
-        (element-within (strideOf s) (s .«vector_bytes») (bytesOf (o .size)) (elementsIn s t o) (fits .whole) (fits .apart) (o .tile) (fits .tile) k w)
-        (byte-within (strideOf s) (s .«vector_bytes») (bytesOf (o .size)) (elementsIn s t o) (fits .whole) (fits .apart) (o .tile) (fits .tile) k)
+        (element-within (strideOf s) (s .«vector_bytes») (bytesOf (o .size)) (elementsIn s o) (fits .whole) (fits .apart) (o .tile) (fits .tile) k w)
+        (byte-within (strideOf s) (s .«vector_bytes») (bytesOf (o .size)) (elementsIn s o) (fits .whole) (fits .apart) (o .tile) (fits .tile) k)
         (e ∙ ap (λ (j : ℕ). v * strideOf s + j) (sym (div-add-mod' k (bytesOf (o .size))))))
 
 -- ---- a group
@@ -168,7 +168,7 @@ module _ (s : Settings) (t : State) (o : ArrayToVectors) (fits : GroupFits s t o
       let below : vector-of j * strideOf s + k < s .«vector_bytes» * strideOf s = digits-lt (group-differs .below j hj) (omega (arith, fits .apart)) in
       rw (← group-vector j k hj) (vectors-at (strideOf s) (s .«vector_bytes») (registersOf (o .registers)) (fits .some) (fits .apart) vector-of (group-differs .differ) val (t .za) j k hj hk (omega (arith, fits .long)))
 
-  group-beside : OthersStay (λ q. EachVector s t o (λ j k. q ≡ inGroup s t o j k → ⊥)) (t .za) (scatter (groupByte s (t .x) o) all val (registersOf (o .registers) * s .«vector_bytes») (t .za))
+  group-beside : OthersStay (λ q. EachVector s o (λ j k. q ≡ inGroup s t o j k → ⊥)) (t .za) (scatter (groupByte s (t .x) o) all val (registersOf (o .registers) * s .«vector_bytes») (t .za))
   unfolding groupAt
   group-beside q h = vectors-other (strideOf s) (s .«vector_bytes») (registersOf (o .registers)) (fits .some) (fits .apart) vector-of (group-differs .differ) val (t .za) q (λ j k hj hk e. h j k hj hk (e ∙ group-vector j k hj))
 
@@ -176,12 +176,12 @@ module _ (s : Settings) (t : State) (o : ArrayToVectors) (fits : GroupFits s t o
   register-differs : (i j : ℕ) → i < registersOf (o .registers) → j < registersOf (o .registers) → o .zd + i ≡ o .zd + j → i ≡ j
   register-differs i j hi hj e = omega arith
 
-  registers-at : (j k : ℕ) → j < registersOf (o .registers) → k < s .«vector_bytes» → getD (scatter (registersByte s (o .zd)) all val (registersOf (o .registers) * s .«vector_bytes») (t .z)) (inRegisters s t o j k) 0 ≡ val (j * s .«vector_bytes» + k)
+  registers-at : (j k : ℕ) → j < registersOf (o .registers) → k < s .«vector_bytes» → getD (scatter (registersByte s (o .zd)) all val (registersOf (o .registers) * s .«vector_bytes») (t .z)) (inRegisters s o j k) 0 ≡ val (j * s .«vector_bytes» + k)
   registers-at j k hj hk =
       let below : (o .zd + j) * strideOf s + k < (o .zd + registersOf (o .registers)) * strideOf s = digits-lt (omega arith) (omega (arith, fits .apart)) in
       vectors-at (strideOf s) (s .«vector_bytes») (registersOf (o .registers)) (fits .some) (fits .apart) (λ j. o .zd + j) register-differs val (t .z) j k hj hk (omega (arith, fits .room))
 
-  registers-beside : OthersStay (λ q. EachVector s t o (λ j k. q ≡ inRegisters s t o j k → ⊥)) (t .z) (scatter (registersByte s (o .zd)) all val (registersOf (o .registers) * s .«vector_bytes») (t .z))
+  registers-beside : OthersStay (λ q. EachVector s o (λ j k. q ≡ inRegisters s o j k → ⊥)) (t .z) (scatter (registersByte s (o .zd)) all val (registersOf (o .registers) * s .«vector_bytes») (t .z))
   registers-beside q h = vectors-other (strideOf s) (s .«vector_bytes») (registersOf (o .registers)) (fits .some) (fits .apart) (λ j. o .zd + j) register-differs val (t .z) q h
 
 -- ---- memory
@@ -231,13 +231,13 @@ module _ (s : Settings) (t : State) (o : SliceAccess) (fits : AccessFits s t o) 
       let h = and-parts (leb (s .«memory_address») (addressOf (t .x) o k)) (ltb (addressOf (t .x) o k) (s .«memory_address» + length (t .memory))) (fits .inside k w y) in
       (leb-true _ _ (h .0), ltb-true _ _ (h .1))
 
-  address-element : (e i : ℕ) → i < bytesOf (o .slice .size) → addressOf (t .x) o (e * bytesOf (o .slice .size) + i) ≡ addressIn s t o e i
+  address-element : (e i : ℕ) → i < bytesOf (o .slice .size) → addressOf (t .x) o (e * bytesOf (o .slice .size) + i) ≡ addressIn (t .x) o e i
   address-element e i h = rw (digits-div e h, digits-mod e h)
 
   slice-byte : (e i : ℕ) → i < bytesOf (o .slice .size) → sliceByte s (t .x) (o .slice) (e * bytesOf (o .slice .size) + i) ≡ inSlice s t (o .slice) e i
   slice-byte e i h = element-byte s t (o .slice) (fits .slice) e i h
 
-  stored-at : (e i q : ℕ) → e < elementsIn s t (o .slice) → i < bytesOf (o .slice .size) → Active s t (o .slice) (o .pg) e → s .«memory_address» + q ≡ addressIn s t o e i →
+  stored-at : (e i q : ℕ) → e < elementsIn s (o .slice) → i < bytesOf (o .slice .size) → Active s t (o .slice) (o .pg) e → s .«memory_address» + q ≡ addressIn (t .x) o e i →
       getD (scatter (memoryByte s (t .x) o) (activeUnder s (t .p) (o .pg) (o .slice)) (sliceValue s t (o .slice)) (s .«vector_bytes») (t .memory)) q 0 ≡ getD (t .za) (inSlice s t (o .slice) e i) 0
   stored-at e i q he hi a r =
       let k = e * bytesOf (o .slice .size) + i in
@@ -251,15 +251,15 @@ module _ (s : Settings) (t : State) (o : SliceAccess) (fits : AccessFits s t o) 
       (λ j v yj ne same. let c = in-bounds j v yj in ne (address-same j k v w (omega (arith, b .0, c .0, same)))) ∙
       cond-on (on k) _ _ y ∙ ap (λ (n : ℕ). getD (t .za) n 0) (slice-byte e i hi))
 
-  stored-beside : OthersStay (λ q. EachByte s t (o .slice) (λ e i. Active s t (o .slice) (o .pg) e → s .«memory_address» + q ≡ addressIn s t o e i → ⊥)) (t .memory) (scatter (memoryByte s (t .x) o) (activeUnder s (t .p) (o .pg) (o .slice)) (sliceValue s t (o .slice)) (s .«vector_bytes») (t .memory))
+  stored-beside : OthersStay (λ q. EachByte s (o .slice) (λ e i. Active s t (o .slice) (o .pg) e → s .«memory_address» + q ≡ addressIn (t .x) o e i → ⊥)) (t .memory) (scatter (memoryByte s (t .x) o) (activeUnder s (t .p) (o .pg) (o .slice)) (sliceValue s t (o .slice)) (s .«vector_bytes») (t .memory))
   unfolding active
   stored-beside q h =
       let m = bytesOf (o .slice .size) in
       let f = fits .slice in
       getD-scatter-other (memoryByte s (t .x) o) (activeUnder s (t .p) (o .pg) (o .slice)) (sliceValue s t (o .slice)) (s .«vector_bytes») (t .memory) q
       (λ k w y e. h (k / m) (k % m)
-      (element-within (strideOf s) (s .«vector_bytes») m (elementsIn s t (o .slice)) (f .whole) (f .apart) (o .slice .tile) (f .tile) k w)
-      (byte-within (strideOf s) (s .«vector_bytes») m (elementsIn s t (o .slice)) (f .whole) (f .apart) (o .slice .tile) (f .tile) k)
+      (element-within (strideOf s) (s .«vector_bytes») m (elementsIn s (o .slice)) (f .whole) (f .apart) (o .slice .tile) (f .tile) k w)
+      (byte-within (strideOf s) (s .«vector_bytes») m (elementsIn s (o .slice)) (f .whole) (f .apart) (o .slice .tile) (f .tile) k)
       (eqb-true _ 1 y) (let b = in-bounds k w y in omega (arith, b .0, e)))
 
 -- ---- each operation
@@ -323,7 +323,7 @@ module _ (s : Settings) (t : State) (h : SizedAt s t) where
       f : GroupFits s t o
       f = group-fits s t o h r
 
-      taken : EachVector s t o (λ j k. getD (scatter (registersByte s (o .zd)) all (groupValue s t o) (registersOf (o .registers) * s .«vector_bytes») (t .z)) (inRegisters s t o j k) 0 ≡ getD (t .za) (inGroup s t o j k) 0)
+      taken : EachVector s o (λ j k. getD (scatter (registersByte s (o .zd)) all (groupValue s t o) (registersOf (o .registers) * s .«vector_bytes») (t .z)) (inRegisters s o j k) 0 ≡ getD (t .za) (inGroup s t o j k) 0)
       taken j k hj hk =
           registers-at s t o f (groupValue s t o) j k hj hk ∙
           ap (λ (n : ℕ). getD (t .za) n 0) (groupAt-vector (strideOf s) (s .«vector_bytes») (groupIn s (t .x) o) j k hk ∙ group-vector s t o f (groupValue s t o) j k hj)
@@ -343,7 +343,7 @@ module _ (s : Settings) (t : State) (h : SizedAt s t) where
       record { vectors = takes-vectors true o r; zero = group-zeroed s t o f zeros; za = group-beside s t o f zeros }
 
   -- active bytes of a load or store are in memory
-  access-inside : (o : SliceAccess) → AccessFits s t o → EachByte s t (o .slice) (λ e i. Active s t (o .slice) (o .pg) e → (s .«memory_address» ≤ addressIn s t o e i) × (addressIn s t o e i < s .«memory_address» + length (t .memory)))
+  access-inside : (o : SliceAccess) → AccessFits s t o → ActiveInside s t o
   access-inside o f e i he hi a =
       let k : e * bytesOf (o .slice .size) + i < s .«vector_bytes» = rw (← f .slice .whole) (digits-lt he hi) in
       rw (← address-element s t o f e i hi) (in-bounds s t o f _ k (active-on s t (o .slice) (o .pg) e i hi a))

@@ -233,13 +233,13 @@ module _ (s : Settings) (w : ℕ) (t : State) (valid : isVectorLength (s .«vect
     m = bytesOf (o .slice .size)
 
     -- byte k of the vector is of element k / m
-    element-of : (k : ℕ) → k < s .«vector_bytes» → k / m < elementsIn s t (o .slice)
-    element-of k h = let e = whole-elements (o .slice .size) (s .«vector_bytes») valid in div-lt-iff-lt-mul {k = m} {x = k} {y = elementsIn s t (o .slice)} (e .some) .1 (rw (e .elements) h)
+    element-of : (k : ℕ) → k < s .«vector_bytes» → k / m < elementsIn s (o .slice)
+    element-of k h = let e = whole-elements (o .slice .size) (s .«vector_bytes») valid in div-lt-iff-lt-mul {k = m} {x = k} {y = elementsIn s (o .slice)} (e .some) .1 (rw (e .elements) h)
 
     byte-of : (k : ℕ) → k % m < m
     byte-of k = mod-lt k (whole-elements (o .slice .size) (s .«vector_bytes») valid .some)
 
-    byte-below : (e i : ℕ) → e < elementsIn s t (o .slice) → i < m → e * m + i < s .«vector_bytes»
+    byte-below : (e i : ℕ) → e < elementsIn s (o .slice) → i < m → e * m + i < s .«vector_bytes»
     byte-below e i he hi = rw (← whole-elements (o .slice .size) (s .«vector_bytes») valid .elements) (digits-lt he hi)
 
     active-of : (k : ℕ) → accessActive s (t .x) (t .p) (length (t .memory)) o k ≡ true → Active s t (o .slice) (o .pg) (k / m)
@@ -260,10 +260,10 @@ module _ (s : Settings) (w : ℕ) (t : State) (valid : isVectorLength (s .«vect
         go (inl y) = inr (ltb-false _ _ (refute _ (λ v. clash _ (and-both _ _ y v) (not-true _ e))))
         go (inr n) = inl (leb-false _ _ n)
 
-    faulting-at : (e i : ℕ) → i < m → Active s t (o .slice) (o .pg) e → NotInMemory s w t (addressIn s t o e i) → faulting s (t .x) (t .p) (length (t .memory)) o (e * m + i) ≡ true
+    faulting-at : (e i : ℕ) → i < m → Active s t (o .slice) (o .pg) e → NotInMemory s w t (addressIn (t .x) o e i) → faulting s (t .x) (t .p) (length (t .memory)) o (e * m + i) ≡ true
     faulting-at e i h a n =
         and-both _ _ (active-element (t .p) (o .pg * (strideOf s / 8)) m e i h ∙ eq-eqb _ 1 a)
-        (rw (digits-div e h, digits-mod e h) (outside-test (addressIn s t o e i) n))
+        (rw (digits-div e h, digits-mod e h) (outside-test (addressIn (t .x) o e i) n))
 
   -- 6
   stack-bad : stackIsBad s (publicOf t) found ≡ true → StackBad s w t
@@ -313,7 +313,7 @@ module _ (s : Settings) (w : ℕ) (t : State) (valid : isVectorLength (s .«vect
         below = element-of o k (l .0);
         within = byte-of o k;
         active = active-of o k (b .0);
-        outside = test-outside o (addressIn s t o (k / m o) (k % m o)) (b .1);
+        outside = test-outside o (addressIn (t .x) o (k / m o) (k % m o)) (b .1);
       }
 
   outside-bad : isSome (faultIn s (publicOf t) found) ≡ true → ByteOutside s w t

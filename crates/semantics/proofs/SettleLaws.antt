@@ -104,9 +104,9 @@ module _ (s : Settings) (t a b : State) (ka : Keeps t a) (kb : Keeps t b) where
   -- a byte of memory is that of an active element, or none is
   stores-settle : (o : SliceAccess) → ToMemory s t a o → ToMemory s t b o → a .memory ≡ b .memory
   stores-settle o f g =
-      lists-settle (elementsIn s t (o .slice)) (bytesOf (o .slice .size)) (λ q e i. eqb (bitOf e) 1 && eqb (s .«memory_address» + q) (addressIn s t o e i)) (a .memory) (b .memory) memory-long
-      (λ q e i he hi y. let h = and-parts (eqb (bitOf e) 1) _ y in let on = eqb-true (bitOf e) 1 (h .0) in let r = eqb-true (s .«memory_address» + q) (addressIn s t o e i) (h .1) in f .active e i he hi q on r ∙ sym (g .active e i he hi q on r))
-      (λ q miss. let away : (e i : ℕ) → e < elementsIn s t (o .slice) → i < bytesOf (o .slice .size) → Active s t (o .slice) (o .pg) e → s .«memory_address» + q ≡ addressIn s t o e i → ⊥ = λ e i he hi on r. clash _ (and-both _ _ (eq-eqb (bitOf e) 1 on) (eq-eqb _ _ r)) (miss e i he hi) in f .memory q away ∙ sym (g .memory q away))
+      lists-settle (elementsIn s (o .slice)) (bytesOf (o .slice .size)) (λ q e i. eqb (bitOf e) 1 && eqb (s .«memory_address» + q) (addressIn (t .x) o e i)) (a .memory) (b .memory) memory-long
+      (λ q e i he hi y. let h = and-parts (eqb (bitOf e) 1) _ y in let on = eqb-true (bitOf e) 1 (h .0) in let r = eqb-true (s .«memory_address» + q) (addressIn (t .x) o e i) (h .1) in f .active e i he hi q on r ∙ sym (g .active e i he hi q on r))
+      (λ q miss. let away : (e i : ℕ) → e < elementsIn s (o .slice) → i < bytesOf (o .slice .size) → Active s t (o .slice) (o .pg) e → s .«memory_address» + q ≡ addressIn (t .x) o e i → ⊥ = λ e i he hi on r. clash _ (and-both _ _ (eq-eqb (bitOf e) 1 on) (eq-eqb _ _ r)) (miss e i he hi) in f .memory q away ∙ sym (g .memory q away))
     where
       -- the bit by which an element is active
       bitOf : ℕ → ℕ
@@ -116,7 +116,7 @@ module _ (s : Settings) (t a b : State) (ka : Keeps t a) (kb : Keeps t b) where
   loads-settle o f g =
       places-settle _ _ (inSlice s t (o .slice)) (t .za) (a .za) (b .za) za-long
       (λ e i he hi. by-active (o .slice) (o .pg) e _
-      (λ y. let q = addressIn s t o e i - s .«memory_address» in let r : s .«memory_address» + q ≡ addressIn s t o e i = omega (arith, f .inside e i he hi y .0) in f .active e i he hi q y r ∙ sym (g .active e i he hi q y r))
+      (λ y. let q = addressIn (t .x) o e i - s .«memory_address» in let r : s .«memory_address» + q ≡ addressIn (t .x) o e i = omega (arith, f .inside e i he hi y .0) in f .active e i he hi q y r ∙ sym (g .active e i he hi q y r))
       (λ y. f .inactive e i he hi y ∙ sym (g .inactive e i he hi y)))
       (f .za) (g .za)
 
@@ -129,23 +129,23 @@ module _ (s : Settings) (t a b : State) (ka : Keeps t a) (kb : Keeps t b) where
       (f .memory ∙ sym (g .memory))
   means-settle (MovazFromTile o) f g =
       same-state
-      (places-settle _ _ (inRegister s t (o .slice) (o .zd)) (t .z) (a .z) (b .z) z-long (λ e i he hi. f .takes e i he hi ∙ sym (g .takes e i he hi)) (f .z) (g .z))
+      (places-settle _ _ (inRegister s (o .slice) (o .zd)) (t .z) (a .z) (b .z) z-long (λ e i he hi. f .takes e i he hi ∙ sym (g .takes e i he hi)) (f .z) (g .z))
       (places-settle _ _ (inSlice s t (o .slice)) (t .za) (a .za) (b .za) za-long (λ e i he hi. f .zero e i he hi ∙ sym (g .zero e i he hi)) (f .za) (g .za))
       (f .memory ∙ sym (g .memory))
   means-settle (MovaFromArray o) f g =
       same-state
-      (places-settle _ _ (inRegisters s t o) (t .z) (a .z) (b .z) z-long (λ j k hj hk. f .vectors .takes j k hj hk ∙ sym (g .vectors .takes j k hj hk)) (f .vectors .z) (g .vectors .z))
+      (places-settle _ _ (inRegisters s o) (t .z) (a .z) (b .z) z-long (λ j k hj hk. f .vectors .takes j k hj hk ∙ sym (g .vectors .takes j k hj hk)) (f .vectors .z) (g .vectors .z))
       (f .za ∙ sym (g .za)) (f .vectors .memory ∙ sym (g .vectors .memory))
   means-settle (MovazFromArray o) f g =
       same-state
-      (places-settle _ _ (inRegisters s t o) (t .z) (a .z) (b .z) z-long (λ j k hj hk. f .vectors .takes j k hj hk ∙ sym (g .vectors .takes j k hj hk)) (f .vectors .z) (g .vectors .z))
+      (places-settle _ _ (inRegisters s o) (t .z) (a .z) (b .z) z-long (λ j k hj hk. f .vectors .takes j k hj hk ∙ sym (g .vectors .takes j k hj hk)) (f .vectors .z) (g .vectors .z))
       (places-settle _ _ (inGroup s t o) (t .za) (a .za) (b .za) za-long (λ j k hj hk. f .zero j k hj hk ∙ sym (g .zero j k hj hk)) (f .za) (g .za))
       (f .vectors .memory ∙ sym (g .vectors .memory))
   means-settle (St1 o) f g = same-state (f .z ∙ sym (g .z)) (f .za ∙ sym (g .za)) (stores-settle o f g)
   means-settle (MovaFromTile o) f g =
       let q = o .whole .slice in
       same-state
-      (places-settle _ _ (inRegister s t q (o .whole .zd)) (t .z) (a .z) (b .z) z-long
+      (places-settle _ _ (inRegister s q (o .whole .zd)) (t .z) (a .z) (b .z) z-long
       (λ e i he hi. by-active q (o .pg) e _ (λ y. f .active e i he hi y ∙ sym (g .active e i he hi y)) (λ y. f .inactive e i he hi y ∙ sym (g .inactive e i he hi y)))
       (f .z) (g .z))
       (f .za ∙ sym (g .za)) (f .memory ∙ sym (g .memory))

@@ -57,7 +57,7 @@ module _ (s : Settings) (w : ℕ) (t : State) where
     pub is : IsAccess access
     pub base : access .rn ≡ 31
     pub element : ℕ
-    pub below : element < elementsIn s t (access .slice)
+    pub below : element < elementsIn s (access .slice)
     pub active : Active s t (access .slice) (access .pg) element
     pub misaligned : getD (t .x) 31 0 % 16 ≡ 0 → ⊥
 
@@ -67,10 +67,10 @@ module _ (s : Settings) (w : ℕ) (t : State) where
     pub is : IsAccess access
     pub element : ℕ
     pub byte : ℕ
-    pub below : element < elementsIn s t (access .slice)
+    pub below : element < elementsIn s (access .slice)
     pub within : byte < bytesOf (access .slice .size)
     pub active : Active s t (access .slice) (access .pg) element
-    pub outside : NotInMemory (addressIn s t access element byte)
+    pub outside : NotInMemory (addressIn (t .x) access element byte)
 
   -- in their order: the reason for answer n + 1 stands at place n
   abbrev pub reasons : List {1} (Type 0)
@@ -89,9 +89,9 @@ module _ (s : Settings) (w : ℕ) (t : State) where
   -- the address that 7 carries: that of the first byte outside memory (least i) of the lowest-numbered such element
   pub record FirstOutside : Type 0 where
     pub first : ByteOutside
-    pub told : executedAddress (executeOf s w t .answer) ≡ addressIn s t (first .access) (first .element) (first .byte)
-    pub element : (e i : ℕ) → e < first .element → i < bytesOf (first .access .slice .size) → Active s t (first .access .slice) (first .access .pg) e → NotInMemory (addressIn s t (first .access) e i) → ⊥
-    pub byte : (i : ℕ) → i < first .byte → NotInMemory (addressIn s t (first .access) (first .element) i) → ⊥
+    pub told : executedAddress (executeOf s w t .answer) ≡ addressIn (t .x) (first .access) (first .element) (first .byte)
+    pub element : (e i : ℕ) → e < first .element → i < bytesOf (first .access .slice .size) → Active s t (first .access .slice) (first .access .pg) e → NotInMemory (addressIn (t .x) (first .access) e i) → ⊥
+    pub byte : (i : ℕ) → i < first .byte → NotInMemory (addressIn (t .x) (first .access) (first .element) i) → ⊥
 
   -- and every other answer carries 0
   pub record AddressTold : Type 0 where
