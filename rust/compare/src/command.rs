@@ -14,8 +14,20 @@ pub fn run<A>(
     read: impl FnOnce(Skip<ArgsOs>) -> Result<A, String>,
     passes: impl FnOnce(&A) -> bool,
 ) -> ExitCode {
+    run_with_help(name, usage, usage, read, passes)
+}
+
+/// The same with a help text that is too long to follow a mistake, which
+/// would be out of sight: the usage follows it instead.
+pub fn run_with_help<A>(
+    name: &str,
+    usage: &str,
+    help: &str,
+    read: impl FnOnce(Skip<ArgsOs>) -> Result<A, String>,
+    passes: impl FnOnce(&A) -> bool,
+) -> ExitCode {
     if env::args_os().any(|word| word == "--help") {
-        println!("{usage}");
+        println!("{help}");
         return ExitCode::SUCCESS;
     }
     match read(env::args_os().skip(1)) {

@@ -1,5 +1,8 @@
-//! Plain strided loops over a column of a tile: what one would write by
-//! hand for one element size, without any check of settings or lengths.
+//! Plain loops over a column of a tile: what one would write by hand for one
+//! element size, without any check of settings or lengths; and a plain copy.
+//! They are called, as the unit is.
+
+use std::hint::black_box;
 
 /// A vertical slice. Element e is in ZA vector e*m + tile, at byte slice*m
 /// (document 01, section 3).
@@ -7,11 +10,18 @@ pub struct Column {
     pub vector_bytes: usize,
     pub tile: usize,
     pub slice: usize,
+    /// How far element 0 of a load or store is behind the first byte of
+    /// memory. It wraps where element 0 is before memory.
+    pub in_memory: usize,
 }
 
 impl Column {
     fn place<const M: usize>(&self, e: usize) -> usize {
         (e * M + self.tile) * self.vector_bytes + self.slice * M
+    }
+
+    fn place_in_memory<const M: usize>(&self, e: usize) -> usize {
+        self.in_memory.wrapping_add(e * M)
     }
 }
 
@@ -19,7 +29,8 @@ fn active(p: &[u8], bit: usize) -> bool {
     p[bit / 8] >> (bit % 8) & 1 == 1
 }
 
-/// As MOVA to tile, with the same predicate test.
+/// As a move to a tile, with the same predicate test.
+#[inline(never)]
 pub fn to_tile<const M: usize>(column: &Column, za: &mut [u8], z: &[u8], p: &[u8]) {
     for e in 0..column.vector_bytes / M {
         if active(p, e * M) {
@@ -29,8 +40,9 @@ pub fn to_tile<const M: usize>(column: &Column, za: &mut [u8], z: &[u8], p: &[u8
     }
 }
 
-/// As MOVA from tile, with the same predicate test: it reads the column and
-/// writes the register, whose inactive elements stay.
+/// As a move from a tile, with the same predicate test: it reads the column
+/// and writes the register, whose inactive elements stay.
+#[inline(never)]
 pub fn from_tile<const M: usize>(column: &Column, za: &[u8], z: &mut [u8], p: &[u8]) {
     for e in 0..column.vector_bytes / M {
         if active(p, e * M) {
@@ -40,7 +52,8 @@ pub fn from_tile<const M: usize>(column: &Column, za: &[u8], z: &mut [u8], p: &[
     }
 }
 
-/// As MOVAZ from tile: it zeroes what it moves.
+/// As a move and zero from a tile: it zeroes what it moves.
+#[inline(never)]
 pub fn zeroing_from_tile<const M: usize>(column: &Column, za: &mut [u8], z: &mut [u8]) {
     for e in 0..column.vector_bytes / M {
         let place = column.place::<M>(e);
@@ -50,25 +63,41 @@ pub fn zeroing_from_tile<const M: usize>(column: &Column, za: &mut [u8], z: &mut
     }
 }
 
-/// As LD1, with the same predicate test: inactive elements become zero.
+/// As a load, with the same predicate test: inactive elements become zero.
+#[inline(never)]
 pub fn load<const M: usize>(column: &Column, za: &mut [u8], memory: &[u8], p: &[u8]) {
     for e in 0..column.vector_bytes / M {
         let place = column.place::<M>(e);
         let element = &mut za[place..place + M];
         if active(p, e * M) {
-            element.copy_from_slice(&memory[e * M..e * M + M]);
+            let from = column.place_in_memory::<M>(e);
+            element.copy_from_slice(&memory[from..from + M]);
         } else {
             element.fill(0);
         }
     }
 }
 
-/// As ST1, with the same predicate test.
+/// As a store, with the same predicate test.
+#[inline(never)]
 pub fn store<const M: usize>(column: &Column, za: &[u8], memory: &mut [u8], p: &[u8]) {
     for e in 0..column.vector_bytes / M {
         if active(p, e * M) {
             let place = column.place::<M>(e);
-            memory[e * M..e * M + M].copy_from_slice(&za[place..place + M]);
+            let to = column.place_in_memory::<M>(e);
+            memory[to..to + M].copy_from_slice(&za[place..place + M]);
         }
+    }
+}
+
+/// Copies so many bytes from ZA to the vector registers, and clears them in ZA
+/// if asked to.
+#[inline(never)]
+pub fn copy(z: &mut [u8], za: &mut [u8], bytes: usize, zeroes: bool) {
+    let bytes = black_box(bytes);
+    let to = black_box(&mut z[..bytes]);
+    to.copy_from_slice(black_box(&za[..bytes]));
+    if zeroes {
+        black_box(&mut za[..bytes]).fill(0);
     }
 }

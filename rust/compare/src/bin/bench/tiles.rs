@@ -2,8 +2,9 @@
 //! begins with the same held tiles, so that they are put back before it: that
 //! is in both times, and is also timed alone.
 
-use crate::timing::{Times, BATCHES};
-use crate::{number, Goals};
+use crate::arguments::Arguments;
+use crate::row::{Goal, Record, Row};
+use crate::timing::{Caller, Timed, Times, Turn};
 use compare::tiles::call::Call;
 use compare::tiles::rules::{BAD_HELD, NONE_FREE};
 use compare::tiles::sets::{self, Set, MOST};
@@ -11,11 +12,10 @@ use compare::tiles::state::put;
 use second::held::{self, HeldMistake, Tile, ELEMENT_BYTES};
 use sme_move::numbers;
 use std::hint::black_box;
+use std::rc::Rc;
 
 /// At most so many nanoseconds is a call to take.
 const GOAL: f64 = 2000.0;
-/// Passes over all sets: each is long, so that few will do.
-const PASSES: usize = 3;
 
 /// The held tiles of both programs, and those that each call begins with.
 struct Keeper {
@@ -81,75 +81,136 @@ impl Keeper {
     }
 }
 
-/// Times and prints all lines, and counts their goals. An error if the
-/// archive has another answer than it must.
-pub fn time_all(goals: &mut Goals) -> Result<(), String> {
-    println!("tiles: putting the held ones back (copy) is in the other times");
-    println!(
-        "{:<52} {:>9} {:>9} {:>9} {:>8}",
-        "operation", "archive", "second", "copy", "goal"
-    );
+/// The lines that are asked for. An error if the archive has another answer
+/// than it must.
+pub fn chosen(arguments: &Arguments) -> Result<Vec<Box<dyn Timed>>, String> {
+    let mut chosen = single_calls(arguments)?;
+    let [take, give_up] = [
+        "take, mean of all sets and sizes",
+        "give up, mean of all sets and tiles held",
+    ];
+    let wanted = [take, give_up].map(|name| arguments.wants(name));
+    if wanted.contains(&true) {
+        let sets: Rc<[Set]> = sets::list().into();
+        if wanted[0] {
+            chosen.push(Box::new(Mean::new(take, &sets, takes)));
+        }
+        if wanted[1] {
+            chosen.push(Box::new(Mean::new(give_up, &sets, give_ups)));
+        }
+    }
+    Ok(chosen)
+}
+
+/// Calls with none, half and all of the tiles of 16-byte elements held.
+fn single_calls(arguments: &Arguments) -> Result<Vec<Box<dyn Timed>>, String> {
     let asked = Call::Take { element_bytes: 16 };
-    let first = Call::GiveUp {
-        tile: Tile {
-            element_bytes: 16,
-            number: 0,
-        },
+    let tile = Tile {
+        element_bytes: 16,
+        number: 0,
     };
+    let mut chosen: Vec<Box<dyn Timed>> = Vec::new();
     for (name, call, answers) in [
         ("take, m=16", asked, [0, 0, NONE_FREE]),
-        ("give up the first, m=16", first, [BAD_HELD, 0, 0]),
+        (
+            "give up the first, m=16",
+            Call::GiveUp { tile },
+            [BAD_HELD, 0, 0],
+        ),
     ] {
         for (held, answer) in [0, MOST / 2, MOST].into_iter().zip(answers) {
             let name = format!("{name}, {held} of m=16 held, answer {answer}");
-            let times = time_one(call, held, answer).map_err(|own| format!("{name}: {own}"))?;
-            goals.add(print_line(&name, &times));
+            if arguments.wants(&name) {
+                chosen.push(Box::new(Single::new(name, call, held, answer)?));
+            }
         }
     }
-    let sets = sets::list();
-    let name = "take, mean of all sets and sizes";
-    goals.add(print_line(name, &time_mean(&sets, takes)));
-    let name = "give up, mean of all sets and tiles held";
-    goals.add(print_line(name, &time_mean(&sets, give_ups)));
-    Ok(())
+    Ok(chosen)
 }
 
-/// Times one call with so many tiles of 16-byte elements held, the
-/// contestants in turns.
-fn time_one(call: Call, held: usize, answer: u32) -> Result<[Times; 3], String> {
-    let mut keeper = Keeper::new();
-    keeper.hold(Tile::all_of(16).take(held));
-    let answered = keeper.archive(call);
-    if answered != answer {
-        return Err(format!("the archive answers {answered}"));
+/// One call, always with the same tiles held.
+struct Single {
+    name: String,
+    call: Call,
+    keeper: Keeper,
+    times: [Times; 3],
+}
+
+impl Single {
+    fn new(name: String, call: Call, held: usize, answer: u32) -> Result<Single, String> {
+        let mut keeper = Keeper::new();
+        keeper.hold(Tile::all_of(16).take(held));
+        let answered = keeper.archive(call);
+        if answered != answer {
+            return Err(format!("{name}: the archive answers {answered}"));
+        }
+        Ok(Single {
+            name,
+            call,
+            keeper,
+            times: CONTESTANTS.map(|_| Times::new()),
+        })
     }
-    let mut times: [Times; 3] = Default::default();
-    for _ in 0..BATCHES {
-        for (times, contestant) in times.iter_mut().zip(CONTESTANTS) {
-            times.batch(|| contestant(&mut keeper, black_box(call)));
+}
+
+impl Timed for Single {
+    fn run(&mut self, turn: Turn) {
+        for _ in 0..turn.batches {
+            for (times, contestant) in self.times.iter_mut().zip(CONTESTANTS) {
+                times.make(|| contestant(&mut self.keeper, black_box(self.call)));
+            }
         }
     }
-    Ok(times)
+
+    fn rows(&self) -> Vec<Row> {
+        vec![row(&self.name, &self.times)]
+    }
 }
 
-/// Times the calls that `calls` makes of each set, all sets being one batch.
-fn time_mean<I: Iterator<Item = Call>>(sets: &[Set], calls: fn(Set) -> I) -> [Times; 3] {
-    let count = sets.iter().map(|&set| calls(set).count() as u32).sum();
-    let mut keeper = Keeper::new();
-    let mut times: [Times; 3] = Default::default();
-    for _ in 0..PASSES {
-        for (times, contestant) in times.iter_mut().zip(CONTESTANTS) {
-            times.pass(count, || {
-                for &set in sets {
-                    keeper.hold(set.tiles());
-                    for call in calls(set) {
-                        black_box(contestant(&mut keeper, black_box(call)));
+/// The calls that are made of each set, all sets being one batch.
+struct Mean<I> {
+    name: &'static str,
+    sets: Rc<[Set]>,
+    calls: fn(Set) -> I,
+    count: u32,
+    keeper: Keeper,
+    times: [Times; 3],
+}
+
+impl<I: Iterator<Item = Call>> Mean<I> {
+    fn new(name: &'static str, sets: &Rc<[Set]>, calls: fn(Set) -> I) -> Mean<I> {
+        Mean {
+            name,
+            sets: sets.clone(),
+            calls,
+            count: sets.iter().map(|&set| calls(set).count() as u32).sum(),
+            keeper: Keeper::new(),
+            times: CONTESTANTS.map(|_| Times::new()),
+        }
+    }
+}
+
+impl<I: Iterator<Item = Call>> Timed for Mean<I> {
+    /// A batch is long here, so that a single one will do for some rounds.
+    fn run(&mut self, turn: Turn) {
+        if !turn.long {
+            return;
+        }
+        for (times, contestant) in self.times.iter_mut().zip(CONTESTANTS) {
+            times.pass(self.count, || {
+                for &set in self.sets.iter() {
+                    self.keeper.hold(set.tiles());
+                    for call in (self.calls)(set) {
+                        black_box(contestant(&mut self.keeper, black_box(call)));
                     }
                 }
             });
         }
     }
-    times
+
+    fn rows(&self) -> Vec<Row> {
+        vec![row(self.name, &self.times)]
+    }
 }
 
 /// Each size asked for, whatever is held.
@@ -163,17 +224,21 @@ fn give_ups(set: Set) -> impl Iterator<Item = Call> {
     set.tiles().map(|tile| Call::GiveUp { tile })
 }
 
-/// Prints the times. Gives whether the goal is met.
-fn print_line(name: &str, times: &[Times; 3]) -> Option<bool> {
+/// The times of the contestants as a line.
+fn row(name: &str, times: &[Times; 3]) -> Row {
     let [archive, second, copy] = times.each_ref().map(Times::least);
-    let met = archive.map(|archive| archive <= GOAL);
-    println!(
-        "{name:<52} {:>9} {:>9} {:>9} {:>8}{}",
-        number(archive, 1),
-        number(second, 1),
-        number(copy, 1),
-        number(Some(GOAL), 1),
-        if met == Some(false) { "  missed" } else { "" }
-    );
-    met
+    let taking = name.starts_with("take");
+    Row {
+        record: Record {
+            name: name.to_string(),
+            vector_bytes: None,
+            archive,
+            copy: Some(copy),
+            strided: None,
+        },
+        kind: if taking { "take" } else { "give up" }.to_string(),
+        second: Some(second),
+        room: None,
+        goal: Some(Goal::Nanoseconds(GOAL)),
+    }
 }

@@ -1,0 +1,80 @@
+//! A call that does nothing: the floor under the times of the archive. It is
+//! built as the archive's call is, a function of the binding that calls one
+//! with the arguments that the archive's has.
+
+use sme_move::{Buffers, Settings};
+use std::hint::black_box;
+
+/// The arguments of the archive's function.
+type Function = extern "C" fn(
+    u64,
+    u64,
+    bool,
+    bool,
+    u64,
+    u32,
+    *const u64,
+    usize,
+    *mut u8,
+    usize,
+    *const u8,
+    usize,
+    *mut u8,
+    usize,
+    *mut u8,
+    usize,
+    &mut u64,
+) -> u32;
+
+/// Takes what the archive's function takes, and is done at once.
+#[inline(never)]
+extern "C" fn nothing(
+    _: u64,
+    _: u64,
+    _: bool,
+    _: bool,
+    _: u64,
+    _: u32,
+    _: *const u64,
+    _: usize,
+    _: *mut u8,
+    _: usize,
+    _: *const u8,
+    _: usize,
+    _: *mut u8,
+    _: usize,
+    _: *mut u8,
+    _: usize,
+    address: &mut u64,
+) -> u32 {
+    *address = 0;
+    0
+}
+
+/// As `sme_move::numbers::execute`, with nothing behind it. The compiler is
+/// not to know what is called, or it would leave the arguments out.
+#[inline(never)]
+pub fn execute(settings: Settings, word: u32, buffers: Buffers<'_>) -> (u32, u64) {
+    let mut address = u64::MAX;
+    let function: Function = black_box(nothing);
+    let answer = function(
+        settings.vector_bytes,
+        settings.level,
+        settings.streaming,
+        settings.za,
+        settings.memory_address,
+        word,
+        buffers.x.as_ptr(),
+        buffers.x.len(),
+        buffers.z.as_mut_ptr(),
+        buffers.z.len(),
+        buffers.p.as_ptr(),
+        buffers.p.len(),
+        buffers.za.as_mut_ptr(),
+        buffers.za.len(),
+        buffers.memory.as_mut_ptr(),
+        buffers.memory.len(),
+        &mut address,
+    );
+    (answer, address)
+}

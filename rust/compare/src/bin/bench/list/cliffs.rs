@@ -1,0 +1,56 @@
+//! Calls that might be much slower than others like them: loads and stores
+//! where memory ends or begins inside the vector, each beside the same call
+//! with room to spare; and columns of which one large element is active.
+
+use super::sliced::{Form, Sliced, FROM_TILE, LOAD, STORE, TO_TILE};
+use crate::active::Active;
+use crate::machine::Machine;
+use crate::task::Task;
+
+/// Memory that ends inside may cost so many times the call with room.
+const GOAL: f64 = 5.0;
+
+/// Pairs with room and without, and single columns.
+pub fn groups(vector_bytes: usize) -> Vec<Vec<Task>> {
+    let mut groups = Vec::new();
+    for sliced in [LOAD, STORE] {
+        let first = forms(vector_bytes, Active::FirstHalf);
+        groups.extend(first.map(|form| ending_inside(task(sliced, form))));
+        let last = forms(vector_bytes, Active::LastHalf);
+        groups.extend(last.map(|form| beginning_inside(task(sliced, form))));
+    }
+    for sliced in [TO_TILE, FROM_TILE, LOAD, STORE] {
+        let columns = forms(vector_bytes, Active::Last);
+        let columns = columns.filter(|form| form.vertical && form.element_bytes == 16);
+        groups.extend(columns.map(|form| vec![task(sliced, form)]));
+    }
+    groups
+}
+
+/// The call with room to spare, which has no goal here.
+fn task(sliced: Sliced, form: Form) -> Task {
+    Task {
+        goal: None,
+        ..sliced.under_predicate(form)
+    }
+}
+
+fn ending_inside(room: Task) -> Vec<Task> {
+    let ends = Task {
+        goal: Some(GOAL),
+        ..room.changed("memory ends inside", Machine::end_memory_inside)
+    };
+    vec![room, ends]
+}
+
+fn beginning_inside(room: Task) -> Vec<Task> {
+    let begins = room.changed("memory begins inside", Machine::begin_memory_inside);
+    vec![room, begins]
+}
+
+/// The forms in which a vector has two elements or more: one element has no
+/// half that is in memory, and is both the last and all.
+fn forms(vector_bytes: usize, active: Active) -> impl Iterator<Item = Form> {
+    let forms = Form::all(vector_bytes, active);
+    forms.filter(|form| form.vector_bytes > form.element_bytes)
+}

@@ -1,0 +1,51 @@
+//! All lines of the table, by vector length.
+
+mod arrays;
+mod cliffs;
+mod refusals;
+mod sliced;
+#[cfg(test)]
+mod tests;
+
+use crate::active::{Active, USUAL};
+use crate::task::{Callee, Task};
+use sliced::{Form, FROM_TILE, LOAD, STORE, TO_TILE, ZEROING_FROM_TILE};
+
+pub const VECTOR_LENGTHS: [usize; 3] = [16, 64, 256];
+
+/// The lines of a vector length, in groups: those of a group are timed in
+/// turns, and all but its first are set beside the first.
+pub fn groups(vector_bytes: usize) -> Vec<Vec<Task>> {
+    let mut groups = vec![vec![empty_call(vector_bytes)]];
+    let alone = |task: Task| vec![task];
+    for sliced in [TO_TILE, FROM_TILE, LOAD, STORE] {
+        for active in USUAL {
+            let named = |form| alone(sliced.under_predicate(form));
+            groups.extend(Form::all(vector_bytes, active).map(named));
+        }
+    }
+    let zeroing = |form| alone(ZEROING_FROM_TILE.task(form));
+    groups.extend(Form::all(vector_bytes, Active::All).map(zeroing));
+    groups.extend(arrays::tasks(vector_bytes).into_iter().map(alone));
+    groups.extend(cliffs::groups(vector_bytes));
+    groups.extend(refusals::tasks(vector_bytes).into_iter().map(alone));
+    groups
+}
+
+/// What any call takes, whatever is called.
+fn empty_call(vector_bytes: usize) -> Task {
+    let form = Form {
+        vector_bytes,
+        element_bytes: 1,
+        vertical: false,
+        active: Active::All,
+    };
+    Task {
+        name: "empty call".to_string(),
+        kind: "empty call".to_string(),
+        callee: Callee::Nothing,
+        copied: 0,
+        goal: None,
+        ..TO_TILE.task(form)
+    }
+}

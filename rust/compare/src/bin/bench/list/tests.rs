@@ -1,0 +1,268 @@
+//! The lines ask for what they say, and are what has to be timed.
+
+use super::*;
+use crate::contestants;
+use crate::machine::{Machine, ADDRESS};
+use crate::task::Strided;
+use crate::timing::Caller;
+use compare::case::archive_settings;
+use sme_move::{decode_fields, Fields, Settings};
+use std::collections::HashSet;
+
+/// Makes one call.
+struct Once;
+
+impl Caller for Once {
+    fn make<T>(&mut self, mut call: impl FnMut() -> T) {
+        call();
+    }
+}
+
+fn tasks(vector_bytes: usize) -> Vec<Task> {
+    groups(vector_bytes).into_iter().flatten().collect()
+}
+
+fn all_tasks() -> Vec<Task> {
+    VECTOR_LENGTHS.into_iter().flat_map(tasks).collect()
+}
+
+/// Whether the contestants left the same bytes.
+fn same(one: &Machine, other: &Machine) -> bool {
+    one.z[..] == other.z[..] && one.za[..] == other.za[..] && one.memory[..] == other.memory[..]
+}
+
+/// The answer and address that the archive gives a task.
+fn answered(task: &Task) -> (u32, u64) {
+    let mut machine = task.machine();
+    let settings = archive_settings(&machine.settings);
+    task.callee.function()(settings, task.word, machine.lend())
+}
+
+#[test]
+fn each_task_is_answered_as_it_says() {
+    for task in all_tasks() {
+        let length = task.vector_bytes;
+        assert_eq!(answered(&task).0, task.answer, "{}, {length}", task.name);
+    }
+}
+
+/// Both programs do the same, so that their times are of the same work.
+#[test]
+fn the_second_program_does_what_the_archive_does() {
+    for task in all_tasks() {
+        if task.callee == Callee::Nothing {
+            continue;
+        }
+        let [mut archive, mut second] = [task.machine(), task.machine()];
+        contestants::archive(&task, &mut archive, &mut Once);
+        contestants::second(&task, &mut second, &mut Once);
+        let length = task.vector_bytes;
+        assert!(same(&archive, &second), "{}, {length}", task.name);
+    }
+}
+
+/// The plain loop of each vertical operation leaves what the unit leaves.
+#[test]
+fn loops_do_what_the_unit_does() {
+    let mut seen = HashSet::new();
+    for task in all_tasks() {
+        let Some(strided) = task.strided else {
+            continue;
+        };
+        let [mut archive, mut plain] = [task.machine(), task.machine()];
+        contestants::archive(&task, &mut archive, &mut Once);
+        contestants::strided(strided, &task, &mut plain, &mut Once);
+        let length = task.vector_bytes;
+        assert!(same(&archive, &plain), "{}, {length}", task.name);
+        seen.insert((strided as usize, task.element_bytes));
+    }
+    assert_eq!(seen.len(), 25);
+}
+
+#[test]
+fn an_empty_call_changes_nothing() {
+    let task = empty_call(16);
+    let [mut called, fresh] = [task.machine(), task.machine()];
+    contestants::archive(&task, &mut called, &mut Once);
+    assert!(same(&called, &fresh));
+    assert_eq!(answered(&task), (0, 0));
+}
+
+/// The numbers of the kinds that are about a slice, and what lines call them.
+const KINDS: [(u8, &str); 5] = [
+    (1, "move to tile"),
+    (2, "move and zero from tile"),
+    (5, "store"),
+    (6, "move from tile"),
+    (7, "load"),
+];
+
+/// The numbers of the word, and what the name must say of its kind.
+fn decoded(task: &Task) -> Option<(Fields, &'static str)> {
+    let fields = decode_fields(task.word, Settings::MAX_LEVEL).ok()?;
+    let kind = KINDS.into_iter().find(|&(kind, _)| kind == fields.kind);
+    kind.map(|(_, name)| (fields, name))
+}
+
+/// What the name says is what the word decodes to. Predicate 0 governs, the
+/// slice is of the byte tile or of tile 1, and the registers are those that
+/// the machine and the plain loops go by.
+#[test]
+fn words_decode_to_what_names_say() {
+    let done = |task: &Task| task.answer == 0 && task.callee == Callee::Archive;
+    let mut seen = 0;
+    for task in tasks(256).into_iter().filter(done) {
+        let Some((fields, kind)) = decoded(&task) else {
+            assert!(task.name.contains("array"), "{}", task.name);
+            continue;
+        };
+        let way = ["horizontal", "vertical"][usize::from(fields.direction)];
+        let start = format!("{kind}, m={}, {way}", fields.element_bytes);
+        assert!(task.name.starts_with(&start), "{}, {start}", task.name);
+        assert_eq!(usize::from(fields.element_bytes), task.element_bytes);
+        assert_eq!(fields.direction == 1, task.strided.is_some());
+        assert_eq!(fields.tile, u8::from(task.element_bytes > 1));
+        assert_eq!((fields.offset, fields.index, fields.predicate), (0, 12, 0));
+        let is_access = ["load", "store"].contains(&kind);
+        let registers = [fields.vector, fields.base, fields.offset_register];
+        assert_eq!(registers, if is_access { [0, 1, 2] } else { [1, 0, 0] });
+        seen += 1;
+    }
+    assert_eq!(seen, 254);
+}
+
+#[test]
+fn moves_from_the_array_decode_to_what_names_say() {
+    let expected = [(3, 2), (3, 4), (4, 2), (4, 4)];
+    for (task, (kind, registers)) in arrays::tasks(64).into_iter().zip(expected) {
+        let fields = decode_fields(task.word, Settings::MAX_LEVEL).expect("it decodes");
+        assert_eq!((fields.kind, fields.registers), (kind, registers));
+        assert_eq!(task.copied, usize::from(registers));
+        assert_eq!(task.zeroes, kind == 4);
+    }
+}
+
+/// A name and a vector length tell a line from all others, and stand in a
+/// line of a saved table.
+#[test]
+fn names_differ() {
+    let mut seen = HashSet::new();
+    for task in all_tasks() {
+        assert!(!task.name.contains(['\t', '\n']));
+        assert!(
+            seen.insert((task.name.clone(), task.vector_bytes)),
+            "{}",
+            task.name
+        );
+    }
+}
+
+/// Every kind in every size and direction, under every usual predicate.
+#[test]
+fn every_encoding_is_timed() {
+    for vector_bytes in VECTOR_LENGTHS {
+        let names: HashSet<_> = tasks(vector_bytes)
+            .into_iter()
+            .map(|task| task.name)
+            .collect();
+        for size in [1, 2, 4, 8, 16] {
+            for way in ["horizontal", "vertical"] {
+                assert!(names.contains(&format!("move and zero from tile, m={size}, {way}")));
+                for kind in ["move to tile", "move from tile", "load", "store"] {
+                    for active in ["all", "alternating", "sparse", "none"] {
+                        let name = format!("{kind}, m={size}, {way}, {active}");
+                        assert!(names.contains(&name), "{name}");
+                    }
+                }
+            }
+        }
+        for name in arrays::tasks(vector_bytes).map(|task| task.name) {
+            assert!(names.contains(&name), "{name}");
+        }
+    }
+}
+
+/// A call without its room is the call with room, but for where memory is.
+#[test]
+fn cliffs_stand_beside_the_same_call() {
+    for vector_bytes in VECTOR_LENGTHS {
+        let pairs = groups(vector_bytes)
+            .into_iter()
+            .filter(|group| group.len() > 1);
+        let mut names = HashSet::new();
+        for pair in pairs {
+            let [room, cliff] = &pair[..] else {
+                panic!("{} lines", pair.len());
+            };
+            assert_eq!((room.word, room.active), (cliff.word, cliff.active));
+            assert!(cliff.name.starts_with(&format!("{}, memory ", room.name)));
+            let [room, cliff_machine] = [room.machine(), cliff.machine()];
+            assert_eq!(room.p[..], cliff_machine.p[..]);
+            assert!(room.memory.len() > cliff_machine.memory.len());
+            names.insert(cliff.name.clone());
+        }
+        let sizes = if vector_bytes == 16 { 4 } else { 5 };
+        let [ends, begins] = ["memory ends inside", "memory begins inside"]
+            .map(|which| names.iter().filter(|name| name.ends_with(which)).count());
+        assert_eq!((ends, begins), (4 * sizes, 4 * sizes));
+    }
+}
+
+/// Columns of one active element, and the refusals, for each answer.
+#[test]
+fn other_cliffs_and_refusals_are_there() {
+    for vector_bytes in VECTOR_LENGTHS {
+        let tasks = tasks(vector_bytes);
+        let answered = |answer| tasks.iter().filter(move |task| task.answer == answer);
+        let counts = [1, 2, 3, 4, 5, 6, 7].map(|answer| answered(answer).count());
+        assert_eq!(counts, [2, 3, 6, 1, 1, 10, 20]);
+        let words: HashSet<_> = answered(3).map(|task| task.word).collect();
+        for word in [0, 0xC001_0000, 0xC006_0001, 0xFFFF_FFFF] {
+            assert!(words.contains(&word), "{word:08X}");
+        }
+        let alone = tasks
+            .iter()
+            .filter(|task| task.name.ends_with("m=16, vertical, last"));
+        assert_eq!(alone.count(), if vector_bytes == 16 { 0 } else { 4 });
+    }
+}
+
+/// Answer 7 is for the first byte, or for one in the middle, as told.
+#[test]
+fn bytes_outside_are_where_names_say() {
+    for task in all_tasks().into_iter().filter(|task| task.answer == 7) {
+        let from_first = answered(&task).1 - ADDRESS;
+        let middle = task.name.ends_with("byte in the middle outside");
+        let expected = if middle { task.vector_bytes / 2 } else { 0 };
+        assert_eq!(from_first, expected as u64, "{}", task.name);
+    }
+}
+
+/// The goals of the moves are for three sizes, those of loads and stores for
+/// rows of 256 bytes and two sizes, and those of cliffs for memory's end.
+#[test]
+fn goals_are_for_some_lines() {
+    for vector_bytes in VECTOR_LENGTHS {
+        let tasks = tasks(vector_bytes);
+        let with = |goal| tasks.iter().filter(move |task| task.goal == Some(goal));
+        let pairs = if vector_bytes == 16 { 16 } else { 20 };
+        let longest = usize::from(vector_bytes == 256);
+        let counts = [8.0, 1.5, 6.0, 12.0, 5.0].map(|goal| with(goal).count());
+        assert_eq!(counts, [27, 27, 4 * longest, 12 * longest, pairs]);
+        assert!(with(1.5).all(|task| task.strided.is_some()));
+        assert!(with(8.0).all(|task| task.name.contains("horizontal")));
+        assert!(with(5.0).all(|task| task.name.ends_with("memory ends inside")));
+        let sized = |task: &Task| ["m=1,", "m=4,"].iter().any(|size| task.name.contains(size));
+        assert!(with(6.0).chain(with(12.0)).all(sized));
+    }
+}
+
+#[test]
+fn loops_stand_beside_columns_alone() {
+    for task in all_tasks() {
+        let vertical = task.name.contains("vertical");
+        assert_eq!(task.strided.is_some(), vertical, "{}", task.name);
+        let zeroing = task.strided == Some(Strided::ZeroingFromTile);
+        assert!(!zeroing || task.zeroes);
+    }
+}

@@ -1,0 +1,110 @@
+//! One line of the table, as it was timed.
+
+/// What is kept of a line for a later run, times in nanoseconds.
+#[derive(Clone, Debug, PartialEq)]
+pub struct Record {
+    pub name: String,
+    /// None where tiles are taken or given up, which goes by no length.
+    pub vector_bytes: Option<usize>,
+    pub archive: f64,
+    pub copy: Option<f64>,
+    pub strided: Option<f64>,
+}
+
+impl Record {
+    /// What tells a line from all others.
+    pub fn key(&self) -> (&str, Option<usize>) {
+        (&self.name, self.vector_bytes)
+    }
+}
+
+/// The most that something is to be.
+#[derive(Clone, Copy, Debug, PartialEq)]
+pub enum Goal {
+    /// The last ratio of the line.
+    Ratio(f64),
+    /// The archive's time.
+    Nanoseconds(f64),
+}
+
+/// A line.
+#[derive(Clone, Debug, PartialEq)]
+pub struct Row {
+    pub record: Record,
+    /// What it is counted under where runs are compared.
+    pub kind: String,
+    pub second: Option<f64>,
+    /// The archive's time for the same call with room to spare.
+    pub room: Option<f64>,
+    pub goal: Option<Goal>,
+}
+
+impl Row {
+    /// The archive's time over that of the copy, of the strided loop, and of
+    /// the same call with room to spare, where there are such.
+    pub fn ratios(&self) -> [Option<f64>; 3] {
+        let Record {
+            archive,
+            copy,
+            strided,
+            ..
+        } = &self.record;
+        [*copy, *strided, self.room].map(|other| other.map(|other| archive / other))
+    }
+
+    /// Whether the goal is met, if there is one.
+    pub fn meets_goal(&self) -> Option<bool> {
+        match self.goal? {
+            Goal::Ratio(most) => {
+                let last = self.ratios().into_iter().flatten().last();
+                last.map(|ratio| ratio <= most)
+            }
+            Goal::Nanoseconds(most) => Some(self.record.archive <= most),
+        }
+    }
+}
+
+#[cfg(test)]
+mod tests {
+    use super::*;
+
+    /// A line whose archive takes 30 ns.
+    fn row(copy: Option<f64>, strided: Option<f64>, room: Option<f64>, goal: Goal) -> Row {
+        Row {
+            record: Record {
+                name: "load".to_string(),
+                vector_bytes: Some(16),
+                archive: 30.0,
+                copy,
+                strided,
+            },
+            kind: "load".to_string(),
+            second: None,
+            room,
+            goal: Some(goal),
+        }
+    }
+
+    #[test]
+    fn goals_are_for_the_last_ratio() {
+        let (copy, strided, room) = (Some(3.0), Some(20.0), Some(5.0));
+        let meets = |copy, strided, room, most| {
+            let row = row(copy, strided, room, Goal::Ratio(most));
+            row.meets_goal()
+        };
+        assert_eq!(meets(copy, None, None, 10.0), Some(true));
+        assert_eq!(meets(copy, None, None, 9.9), Some(false));
+        assert_eq!(meets(copy, strided, None, 1.5), Some(true));
+        assert_eq!(meets(copy, strided, None, 1.4), Some(false));
+        assert_eq!(meets(copy, strided, room, 6.0), Some(true));
+        assert_eq!(meets(copy, strided, room, 5.0), Some(false));
+        assert_eq!(meets(None, None, None, 5.0), None);
+    }
+
+    #[test]
+    fn goals_may_be_nanoseconds() {
+        let meets = |most| row(Some(1.0), None, None, Goal::Nanoseconds(most)).meets_goal();
+        assert_eq!(meets(30.0), Some(true));
+        assert_eq!(meets(29.0), Some(false));
+    }
+}
