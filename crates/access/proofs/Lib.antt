@@ -1,1 +1,5 @@
+mod PredicateLaws
+mod WindowLaws
+mod FaultLaws
 mod AccessLaws
+mod TransferLaws

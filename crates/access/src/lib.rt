@@ -1,9 +1,8 @@
 // Loads and stores of a tile slice.
 mod address;
-mod from_memory;
+mod load_store;
 mod predicate;
 mod reach;
-mod to_memory;
+mod window;
 
-pub use from_memory::load;
-pub use to_memory::store;
+pub use load_store::access;

@@ -2,34 +2,40 @@
 ghost use mathlib.Core.Path.{_≡_};
 ghost use Prim.Native.Nat.{_+_, _*_, _/_, _<_, _≤_};
 ghost use lib.ListN.{length};
+ghost use Rattle.settings.specs.Settings.{maxVectorBytes};
+ghost use Rattle.tiles.specs.Element.{bytesOf};
 ghost use Rattle.tiles.specs.Predicate.{active};
-ghost use Rattle.general.specs.Least.{least, isSome};
-ghost use Rattle.access.specs.Promise.{elementBits, allSet};
+ghost use Rattle.access.specs.Promise.{elementBits, allSet, First};
 use tiles::ElementSize;
 
-// Whether byte k of a vector is of an active element of m bytes, under the governing predicate that
-// starts at index pbase of p.
-pub(crate) fn is_active(p: &[u8], pbase: usize, m: usize, k: usize) -> bool
-    requires { ⌜ (0 < m) × (pbase + k / 8 < length (now p)) ⌝ }
-    ensures { λ r. ⌜ r ≡ active (now (p .entry)) pbase m k ⌝ }
+// The first byte of the element that byte k is of.
+fn element_start(k: usize, size: ElementSize) -> usize
+    ensures { λ r. ⌜ (r ≡ k / bytesOf size * bytesOf size) × (r ≤ k) ⌝ }
 {
-    let i = k / m * m;
-    (p[pbase + i / 8] >> (i % 8)) % 2 == 1
+    let d = size.doublings();
+    k >> d << d
 }
 
-// Whether a vector of n bytes has an active element.
-pub(crate) fn any_active(p: &[u8], pbase: usize, m: usize, n: usize) -> bool
-    requires { ⌜ (0 < m) × (pbase * 8 + n ≤ 8 * length (now p)) ⌝ }
-    ensures { λ r. ⌜ r ≡ isSome (least (active (now (p .entry)) pbase m) n) ⌝ }
+// The first byte from byte `from` on, and before byte n, that is of an active element; n where there is none. It goes by
+// predicate bytes, which start at index base of p: no element is active under one that is zero.
+pub(crate) fn first_active(p: &[u8], base: usize, size: ElementSize, from: usize, n: usize) -> usize
+    requires { ⌜ (base * 8 + n ≤ 8 * length (now p)) × (n ≤ maxVectorBytes) ⌝ }
+    ensures { λ r. ⌜ First (active (now (p .entry)) base (bytesOf size)) from n r ⌝ }
 {
-    let mut k = 0;
+    let mut k = from;
     while k < n {
-        if is_active(p, pbase, m, k) {
-            return true;
+        let i = element_start(k, size);
+        let b = p[base + i / 8];
+        if b == 0 {
+            k = k / 8 * 8 + 8;
+        } else {
+            if (b >> (i % 8)) % 2 == 1 {
+                return k;
+            }
+            k += 1;
         }
-        k += 1;
     }
-    false
+    n
 }
 
 // The bits of a predicate byte that elements of a size go by. An element of 16 bytes has two predicate bytes and goes by the
@@ -46,29 +52,29 @@ fn element_bits(size: ElementSize) -> u8
     }
 }
 
-// Whether n predicate bytes from index at on have all of these bits set. Every byte is looked at: without an early end
-// the compiler takes many at a time.
-fn all_set(p: &[u8], at: usize, bits: u8, n: usize) -> bool
-    requires { ⌜ at + n ≤ length (now p) ⌝ }
-    ensures { λ r. ⌜ r ≡ allSet (now (p .entry)) at bits n ⌝ }
+// Whether all bytes of a predicate have all of these bits set. Every byte is looked at: without an early end the compiler takes
+// many at a time.
+fn all_set(p: &[u8], bits: u8) -> bool
+    ensures { λ r. ⌜ r ≡ allSet (now (p .entry)) bits (length (now (p .entry))) ⌝ }
 {
     let mut all = true;
     let mut i = 0;
-    while i < n {
-        all = if (p[at + i] & bits) == bits {
-            all
-        } else {
-            false
-        };
+    while i < p.len() {
+        all = if (p[i] & bits) == bits { all } else { false };
         i += 1;
     }
     all
 }
 
-// Whether the bits of `element_bits` are set in every predicate byte of a vector of n bytes, so that every element is active.
-pub(crate) fn is_full(p: &[u8], pbase: usize, size: ElementSize, n: usize) -> bool
-    requires { ⌜ pbase + n / 8 ≤ length (now p) ⌝ }
-    ensures { λ r. ⌜ r ≡ allSet (now (p .entry)) pbase (elementBits size) (n / 8) ⌝ }
+// Whether the bits of `element_bits` are set in every predicate byte, so that every element is active. Most predicates that
+// are not full tell so in their first byte.
+pub(crate) fn is_full(p: &[u8], size: ElementSize) -> bool
+    requires { ⌜ 0 < length (now p) ⌝ }
+    ensures { λ r. ⌜ r ≡ allSet (now (p .entry)) (elementBits size) (length (now (p .entry))) ⌝ }
 {
-    all_set(p, pbase, element_bits(size), n / 8)
+    let bits = element_bits(size);
+    if (p[0] & bits) != bits {
+        return false;
+    }
+    all_set(p, bits)
 }

@@ -9,6 +9,10 @@ use lib.ListN.{length}
 use Rattle.settings.specs.Settings.{lengthsOf}
 use Rattle.settings.specs.declared.Settings.{Settings}
 use Rattle.encoding.specs.Codec.{decodeOf}
+use Rattle.encoding.specs.Range.{ArrayInRange, AccessInRange, InRange}
+use Rattle.encoding.specs.Steps.{arrayMove, accessMove}
+use Rattle.encoding.specs.declared.operation.ArrayToVectors.{ArrayToVectors}
+use Rattle.encoding.specs.declared.operation.SliceAccess.{SliceAccess}
 use Rattle.encoding.specs.declared.operation.Operation.{Operation}
 use Rattle.encoding.specs.declared.operation.Decoded.{Decoded}
 use Rattle.encoding.specs.declared.operation.Decoded.the-variants as decoded
@@ -33,7 +37,20 @@ module _ (s : Settings) (lx lz lp lza lm : ℕ) (h : Sized s lx lz lp lza lm) wh
   pub without-z : Sized s lx (lengthsOf s .z) lp lza lm
   without-z = record { vector = h .vector; level = h .level; x = h .x; z = refl; p = h .p; za = h .za; memory = h .memory }
 
+-- what is in range whether a move zeroes or not, an access stores or not
+pub array-range : (b : Bool) (o : ArrayToVectors) → InRange (arrayMove b o) → ArrayInRange o
+array-range true o h = h
+array-range false o h = h
+
+pub access-range : (b : Bool) (o : SliceAccess) → InRange (accessMove b o) → AccessInRange o
+access-range true o h = h
+access-range false o h = h
+
 -- a move is done
+pub array-done : (s : Settings) (x p : List ℕ) (lm : ℕ) (b : Bool) (o : ArrayToVectors) → operationAnswer s x p lm (arrayMove b o) ≡ Done
+array-done s x p lm true o = refl
+array-done s x p lm false o = refl
+
 pub moves-perform : (s : Settings) (op o : Operation) (x z p za memory : List ℕ) {z′ za′ : List ℕ} → op ≡ o → operationAnswer s x p (length memory) o ≡ Done → Moves s o x z p za z′ za′ → Performs s op (stateOf x z p za memory) Done (stateOf x z′ p za′ memory)
 moves-perform s op o x z p za memory e ans h = rw e (record { answer = sym ans; state = h memory })
 

@@ -7,7 +7,9 @@ use encoding::PredicatedTileToVector;
 use encoding::TileToVector;
 use encoding::VectorToTile;
 use settings::Settings;
-use tiles::slice_number;
+use tiles::predicate_start;
+use tiles::slice_span;
+use tiles::vector_span;
 
 // Copies the active elements of a vector register to a slice of a tile.
 pub(crate) fn move_to_tile(
@@ -21,24 +23,13 @@ pub(crate) fn move_to_tile(
     requires { ⌜ Sized settings (length (now x)) (length (now z)) (length (now p)) (length (now za)) 0 × ToTileInRange operation ⌝ }
     ensures { λ _. ⌜ Moves settings (MovaToTile operation) (now (x .entry)) (now (z .entry)) (now (p .entry)) (now (za .entry)) (now (z .entry)) (now (za .exit)) ⌝ }
 {
-    let n = settings.vector_bytes as usize;
     let slice = operation.slice;
     let size = slice.size;
-    let direction = slice.direction;
-    let number = slice_number(x, slice, n);
-    slices::move_to_slice(
-        za,
-        z,
-        p,
-        n,
-        n,
-        size,
-        slice.tile as usize,
-        direction,
-        number,
-        operation.zn as usize * n,
-        operation.pg as usize * (n / 8),
-    );
+    let to = slice_span(slice, settings, x);
+    let from = vector_span(operation.zn as usize, settings, size);
+    let base = predicate_start(operation.pg, settings);
+    let end = base + settings.vector_bytes as usize / 8;
+    moves::merge(za, to, z, from, &p[base..end], size);
 }
 
 // Moves a slice of a tile to a vector register; the slice is then zero.
@@ -53,22 +44,11 @@ pub(crate) fn take_from_tile(
     requires { ⌜ Sized settings (length (now x)) (length (now z)) (length (now p)) (length (now za)) 0 × FromTileInRange operation ⌝ }
     ensures { λ _. ⌜ Moves settings (MovazFromTile operation) (now (x .entry)) (now (z .entry)) (now (p .entry)) (now (za .entry)) (now (z .exit)) (now (za .exit)) ⌝ }
 {
-    let n = settings.vector_bytes as usize;
     let slice = operation.slice;
     let size = slice.size;
-    let direction = slice.direction;
-    let number = slice_number(x, slice, n);
-    slices::take_slice(
-        za,
-        z,
-        n,
-        n,
-        size,
-        slice.tile as usize,
-        direction,
-        number,
-        operation.zd as usize * n,
-    );
+    let from = slice_span(slice, settings, x);
+    let to = vector_span(operation.zd as usize, settings, size);
+    moves::take(z, to, za, from, size);
 }
 
 // Copies the active elements of a slice of a tile to a vector register; the others of the register stay.
@@ -83,23 +63,12 @@ pub(crate) fn move_from_tile(
     requires { ⌜ Sized settings (length (now x)) (length (now z)) (length (now p)) (length (now za)) 0 × PredicatedInRange operation ⌝ }
     ensures { λ _. ⌜ Moves settings (MovaFromTile operation) (now (x .entry)) (now (z .entry)) (now (p .entry)) (now (za .entry)) (now (z .exit)) (now (za .entry)) ⌝ }
 {
-    let n = settings.vector_bytes as usize;
     let whole = operation.whole;
     let slice = whole.slice;
     let size = slice.size;
-    let direction = slice.direction;
-    let number = slice_number(x, slice, n);
-    slices::merge_from_slice(
-        z,
-        whole.zd as usize * n,
-        za,
-        p,
-        n,
-        n,
-        size,
-        slice.tile as usize,
-        direction,
-        number,
-        operation.pg as usize * (n / 8),
-    );
+    let from = slice_span(slice, settings, x);
+    let to = vector_span(whole.zd as usize, settings, size);
+    let base = predicate_start(operation.pg, settings);
+    let end = base + settings.vector_bytes as usize / 8;
+    moves::merge(z, to, za, from, &p[base..end], size);
 }

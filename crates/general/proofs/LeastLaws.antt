@@ -1,11 +1,9 @@
 -- Laws of specs/Least.antt, for any test.
 -- Assumes nothing.
-use Prim.Native.Nat.{ℕ, zero, suc, _+_, _<_, _≤_}
+use Prim.Native.Nat.{ℕ, zero, suc, _<_}
 use mathlib.Core.Path.{_≡_, refl, sym, _∙_}
 use mathlib.Core.Bool.{Bool, true, false, cond, true≢false, false≢true}
 use mathlib.Core.Option.{Option, none, some, Option·some-injective}
-use native.Mathlib.Nat.{le-antisymm}
-use native.Mathlib.Numerals.{add-one}
 use native.Mathlib.Decide.{ℕ-discrete}
 use native.Mathlib.Omega.{arith}
 use Rattle.general.specs.Least.{orElse, least, isSome}
@@ -19,18 +17,6 @@ is-some (some k) e = (k, refl)
 is-some none e = absurd (false≢true e)
 
 module _ (f : ℕ → Bool) where
-  pub least-zero : least f 0 ≡ none
-  unfolding least
-  least-zero = refl
-
-  -- one more place, which fails the test
-  pub least-more : (k : ℕ) → least f k ≡ none → f k ≡ false → least f (k + 1) ≡ none
-  unfolding least
-  least-more k e h = rw (add-one k, e, h)
-
-  pub least-end : (k n : ℕ) → least f k ≡ none → k ≤ n → n ≤ k → least f n ≡ none
-  least-end k n e h w = rw (← le-antisymm h w) e
-
   -- a place that passes the test, and none before it does
   pub least-found : (k n : ℕ) → least f k ≡ none → f k ≡ true → k < n → least f n ≡ some k
   unfolding least

@@ -3,14 +3,19 @@
 use mathlib.Core.Path.{_≡_, refl, ap, _∙_}
 use mathlib.Core.Bool.{Bool, true, false, cond}
 use mathlib.Core.List.{List}
+use mathlib.Core.Option.{Option, none, some}
 use Prim.Native.Nat.{ℕ, zero, suc, _+_, _<_, _≤_}
 use native.Mathlib.Nat.{add-zero, add-suc, le-antisymm}
 use native.Mathlib.Numerals.{add-one}
 use native.Mathlib.Decide.{ℕ-discrete}
 use native.Mathlib.Omega.{arith}
+use lib.Dec.{eqb}
 use lib.ListN.{length, getD, set, length-set}
-use lib.Seq.{getD-set-same, getD-set-other}
-use Rattle.general.specs.Scatter.{setIf, scatter, all}
+use lib.Seq.{getD-set-same, getD-set-other, ext-getD}
+use borrow.Author.Tests.{eqb-true, eqb-false}
+use Rattle.general.specs.Least.{least}
+use Rattle.general.specs.Scatter.{setIf, scatter}
+use Rattle.general.proofs.LeastLaws.{least-none, least-some}
 
 pub length-setIf : (b : Bool) (l : List ℕ) (i v : ℕ) → length (setIf b l i v) ≡ length l
 length-setIf true l i v = length-set l i v
@@ -82,16 +87,30 @@ scatter-none at on val = refl
 pub scatter-end : (at : ℕ → ℕ) (on : ℕ → Bool) (val : ℕ → ℕ) (l : List ℕ) {i n : ℕ} {d : List ℕ} → d ≡ scatter at on val i l → i ≤ n → n ≤ i → d ≡ scatter at on val n l
 scatter-end at on val l e h k = e ∙ ap (λ (j : ℕ). scatter at on val j l) (le-antisymm h k)
 
--- places and values that agree below n
-pub scatter-agree : (at at′ : ℕ → ℕ) (on : ℕ → Bool) (val val′ : ℕ → ℕ) (n : ℕ) (l : List ℕ) → ((k : ℕ) → k < n → (at k ≡ at′ k) × (val k ≡ val′ k)) → scatter at on val n l ≡ scatter at′ on val′ n l
+-- places and values that agree below n, where the test holds
+pub scatter-agree : (at at′ : ℕ → ℕ) (on : ℕ → Bool) (val val′ : ℕ → ℕ) (n : ℕ) (l : List ℕ) → ((k : ℕ) → k < n → on k ≡ true → (at k ≡ at′ k) × (val k ≡ val′ k)) → scatter at on val n l ≡ scatter at′ on val′ n l
 unfolding scatter
 scatter-agree at at′ on val val′ zero l h = refl
 scatter-agree at at′ on val val′ (suc n) l h =
-    let w = h n (omega arith) in
-    rw (w .0, w .1, scatter-agree at at′ on val val′ n l (λ k w. h k (omega arith)))
+    go (on n) (h n (omega arith)) (scatter-agree at at′ on val val′ n l (λ k w. h k (omega arith)))
+  where
+    go : (b : Bool) → (b ≡ true → (at n ≡ at′ n) × (val n ≡ val′ n)) → {d d′ : List ℕ} → d ≡ d′ → setIf b d (at n) (val n) ≡ setIf b d′ (at′ n) (val′ n)
+    go true w e = rw (w refl .0, w refl .1, e)
+    go false w e = e
 
--- a test that holds everywhere below n
-pub scatter-all : (at : ℕ → ℕ) (on : ℕ → Bool) (val : ℕ → ℕ) (n : ℕ) (l : List ℕ) → ((k : ℕ) → k < n → on k ≡ true) → scatter at all val n l ≡ scatter at on val n l
+-- tests that agree below n
+pub scatter-tests : (at : ℕ → ℕ) (on on′ : ℕ → Bool) (val : ℕ → ℕ) (n : ℕ) (l : List ℕ) → ((k : ℕ) → k < n → on k ≡ on′ k) → scatter at on val n l ≡ scatter at on′ val n l
 unfolding scatter
-scatter-all at on val zero l h = refl
-scatter-all at on val (suc n) l h = rw (h n (omega arith), scatter-all at on val n l (λ k w. h k (omega arith)))
+scatter-tests at on on′ val zero l h = refl
+scatter-tests at on on′ val (suc n) l h = rw (h n (omega arith), scatter-tests at on on′ val n l (λ k w. h k (omega arith)))
+
+-- lists of one length that agree at n places, and wherever none of them is
+pub lists-agree : (at : ℕ → ℕ) (n : ℕ) (l l′ : List ℕ) → length l ≡ length l′ → ((k : ℕ) → k < n → getD l (at k) 0 ≡ getD l′ (at k) 0) → ((q : ℕ) → ((k : ℕ) → k < n → q ≡ at k → ⊥) → getD l q 0 ≡ getD l′ q 0) → l ≡ l′
+lists-agree at n l l′ long here beside =
+    ext-getD 0 l l′ long (λ q w. go q (least (λ (k : ℕ). eqb q (at k)) n) refl)
+  where
+    go : (q : ℕ) (o : Option ℕ) → least (λ (k : ℕ). eqb q (at k)) n ≡ o → getD l q 0 ≡ getD l′ q 0
+    go q (some k) e =
+        let h = least-some (λ (j : ℕ). eqb q (at j)) n k e in
+        rw (eqb-true q (at k) (h .1)) (here k (h .0))
+    go q none e = beside q (λ k w. eqb-false q (at k) (least-none (λ (j : ℕ). eqb q (at j)) n e k w))

@@ -1,4 +1,6 @@
 pub mod BlockLaws
-pub mod PartLaws
+mod PartLaws
 mod MaskLaws
-pub mod ColumnLaws
+pub mod SpanLaws
+mod GroupLaws
+pub mod PredicateLaws

@@ -4,7 +4,7 @@ use mathlib.Core.Path.{_≡_, refl, sym}
 use mathlib.Core.Bool.{Bool, not}
 use mathlib.Core.List.{List, [], _∷_}
 use Prim.Native.Nat.{ℕ, zero, suc, _+_, _-_, _*_, _/_, _%_, _^_, _<_, _≤_}
-use native.Mathlib.Nat.{zero-mul, one-mul, pow-suc, add-comm, add-assoc, mod-lt}
+use native.Mathlib.Nat.{zero-add, zero-mul, one-mul, pow-suc, add-comm, mod-lt}
 use native.Mathlib.Numerals.{add-one}
 use native.Mathlib.Omega.{arith}
 use lib.Bits.{bitAnd, and-high}
@@ -15,11 +15,11 @@ use Rattle.general.specs.Least.{least}
 use Rattle.general.proofs.LeastLaws.{least-none}
 use lib.ListN.{getD}
 use lib.Pow.{pow-pos}
-use Rattle.tiles.specs.Element.{bytesOf}
+use Rattle.tiles.specs.Element.{bytesOf, doublingsOf}
 use Rattle.tiles.specs.declared.element.ElementSize.{ElementSize}
 use Rattle.tiles.specs.declared.element.ElementSize.the-variants.{Bits8, Bits16, Bits32, Bits64, Bits128}
 use Rattle.tiles.specs.Predicate.{active}
-use Rattle.moves.specs.Mask.{flag, Masks, maskRow}
+use Rattle.moves.specs.Mask.{flag, Masks}
 
 -- the table of masks
 abbrev pub maskRows : List (List ℕ)
@@ -31,20 +31,28 @@ maskRows =
 
 -- a mask that is not the table's
 maskWrong : ElementSize → ℕ → Bool
-maskWrong s i = not (eqb (getD (getD maskRows (maskRow s) []) i 0) (2 ^ (i / bytesOf s * bytesOf s % 8)))
+maskWrong s i = not (eqb (getD (getD maskRows (doublingsOf s) []) i 0) (2 ^ (i / bytesOf s * bytesOf s % 8)))
 
-none-wrong : (s : ElementSize) → least (maskWrong s) 16 ≡ none
+none-wrong : (s : ElementSize) → bytesOf s ≤ 8 → least (maskWrong s) 16 ≡ none
 unfolding least maskWrong
-none-wrong Bits8 = refl
-none-wrong Bits16 = refl
-none-wrong Bits32 = refl
-none-wrong Bits64 = refl
-none-wrong Bits128 = refl
+none-wrong Bits8 h = refl
+none-wrong Bits16 h = refl
+none-wrong Bits32 h = refl
+none-wrong Bits64 h = refl
+none-wrong Bits128 h = absurd (omega arith)
 
--- each size finds its masks in the table, by a computed test
-pub masks-in-table : (s : ElementSize) → Masks (bytesOf s) (getD maskRows (maskRow s) [])
+-- each size of at most 8 bytes finds its masks in the table, by a computed test
+pub masks-in-table : (s : ElementSize) → bytesOf s ≤ 8 → Masks (bytesOf s) (getD maskRows (doublingsOf s) [])
 unfolding maskWrong
-masks-in-table s i h = eqb-true _ _ (not-false _ (least-none (maskWrong s) 16 (none-wrong s) i h))
+masks-in-table s few i h = eqb-true _ _ (not-false _ (least-none (maskWrong s) 16 (none-wrong s few) i h))
+
+-- and its row is one of the four
+pub row-below : (s : ElementSize) → bytesOf s ≤ 8 → doublingsOf s < 4
+row-below Bits8 h = omega arith
+row-below Bits16 h = omega arith
+row-below Bits32 h = omega arith
+row-below Bits64 h = omega arith
+row-below Bits128 h = absurd (omega arith)
 
 -- where the elements of 16 bytes start, and by which of two predicate bytes each goes
 record Halves (m : ℕ) : Type 0 where
@@ -57,14 +65,6 @@ halves Bits16 h = record { place = λ i h. omega arith; whole = λ g i h. omega 
 halves Bits32 h = record { place = λ i h. omega arith; whole = λ g i h. omega arith }
 halves Bits64 h = record { place = λ i h. omega arith; whole = λ g i h. omega arith }
 halves Bits128 h = absurd (omega arith)
-
--- a size of other than 16 bytes is one of at most 8
-pub bytesOf-half : (s : ElementSize) → (bytesOf s ≡ 16 → ⊥) → bytesOf s ≤ 8
-bytesOf-half Bits8 ne = omega arith
-bytesOf-half Bits16 ne = omega arith
-bytesOf-half Bits32 ne = omega arith
-bytesOf-half Bits64 ne = omega arith
-bytesOf-half Bits128 ne = absurd (ne refl)
 
 one-bit : (b v : ℕ) → b < 2 → 0 < v → not (eqb (b * v) 0) ≡ eqb b 1
 one-bit zero v h w = rw zero-mul
@@ -88,10 +88,10 @@ sixteen-bit : (g x : ℕ) → (g * 16 + x) % 8 ≡ x % 8
 sixteen-bit g x = omega arith
 
 -- byte i of the g-th 16 of a vector is active exactly if its flag is not zero
-pub active-flag : (p : List ℕ) (base : ℕ) (s : ElementSize) (g : ℕ) (bits on : List ℕ) → bytesOf s ≤ 8 → Masks (bytesOf s) bits → ((i : ℕ) → i < 16 → getD on i 0 ≡ bitAnd (getD p (base + g * 2 + i / 8) 0) (getD bits i 0)) → (i : ℕ) → i < 16 → active p base (bytesOf s) (g * 16 + i) ≡ flag on i
+pub active-flag : (p : List ℕ) (s : ElementSize) (g : ℕ) (bits on : List ℕ) → bytesOf s ≤ 8 → Masks (bytesOf s) bits → ((i : ℕ) → i < 16 → getD on i 0 ≡ bitAnd (getD p (g * 2 + i / 8) 0) (getD bits i 0)) → (i : ℕ) → i < 16 → active p 0 (bytesOf s) (g * 16 + i) ≡ flag on i
 unfolding active
-active-flag p base s g bits on few masks made i h =
+active-flag p s g bits on few masks made i h =
     let m = bytesOf s in
     let k = i / m * m in
-    rw (halves s few .whole g i h, sixteen-byte g k, sixteen-bit g k, halves s few .place i h, made i h, masks i h, add-assoc base (g * 2) (i / 8))
-    (sym (mask-tests-bit (getD p (base + (g * 2 + i / 8)) 0) (k % 8)))
+    rw (halves s few .whole g i h, sixteen-byte g k, sixteen-bit g k, halves s few .place i h, made i h, masks i h, zero-add (g * 2 + i / 8))
+    (sym (mask-tests-bit (getD p (g * 2 + i / 8) 0) (k % 8)))

@@ -1,2 +1,2 @@
+pub mod Paired
 pub mod Mask
-pub mod Column

@@ -17,3 +17,11 @@ bytesOf Bits128 = 16
 -- the way back: the widest where no size has so many bytes
 abbrev pub sizeOf : ℕ → ElementSize
 sizeOf m = cond (eqb m 1) Bits8 (cond (eqb m 2) Bits16 (cond (eqb m 4) Bits32 (cond (eqb m 8) Bits64 Bits128)))
+
+-- how often a byte is doubled, as code shifts: nothing to believe goes by it
+abbrev pub doublingsOf : ElementSize → ℕ
+doublingsOf Bits8 = 0
+doublingsOf Bits16 = 1
+doublingsOf Bits32 = 2
+doublingsOf Bits64 = 3
+doublingsOf Bits128 = 4

@@ -1,7 +1,7 @@
 // The five element sizes (document 01 §3).
 ghost use mathlib.Core.Path.{_≡_};
 ghost use Prim.Native.Nat.{_/_, _<_};
-ghost use Rattle.tiles.specs.Element.{bytesOf, sizeOf};
+ghost use Rattle.tiles.specs.Element.{bytesOf, sizeOf, doublingsOf};
 
 // An element's width, named as Arm names its classes of encodings.
 pub enum ElementSize {
@@ -13,17 +13,24 @@ pub enum ElementSize {
 }
 
 impl ElementSize {
+    // How often a byte is doubled: what goes by a size is a shift by this, and no jump or division.
+    pub fn doublings(self) -> u32
+        ensures { λ r. ⌜ (r ≡ doublingsOf self) × (r < 5) ⌝ }
+    {
+        match self {
+            ElementSize::Bits8 => 0,
+            ElementSize::Bits16 => 1,
+            ElementSize::Bits32 => 2,
+            ElementSize::Bits64 => 3,
+            ElementSize::Bits128 => 4,
+        }
+    }
+
     // An element's bytes, which is also how many tiles there are of the size.
     pub fn bytes(self) -> u8
         ensures { λ r. ⌜ (r ≡ bytesOf self) × (r < 17) ⌝ }
     {
-        match self {
-            ElementSize::Bits8 => 1,
-            ElementSize::Bits16 => 2,
-            ElementSize::Bits32 => 4,
-            ElementSize::Bits64 => 8,
-            ElementSize::Bits128 => 16,
-        }
+        1u8 << self.doublings()
     }
 
     // The size with this many bytes; Bits128 where no size has.
@@ -40,15 +47,9 @@ impl ElementSize {
     }
 }
 
-// How many elements a vector has: shifts, where a division by their bytes would be slow.
+// How many elements a vector has.
 pub fn elements_in(vector_bytes: usize, size: ElementSize) -> usize
     ensures { λ r. ⌜ r ≡ «vector_bytes» / bytesOf size ⌝ }
 {
-    match size {
-        ElementSize::Bits8 => vector_bytes,
-        ElementSize::Bits16 => vector_bytes / 2,
-        ElementSize::Bits32 => vector_bytes / 4,
-        ElementSize::Bits64 => vector_bytes / 8,
-        ElementSize::Bits128 => vector_bytes / 16,
-    }
+    vector_bytes >> size.doublings()
 }

@@ -11,19 +11,16 @@ use Rattle.access.proofs.address.first_address.Tie as tie
 
 returns : tie.Need-returns
 returns c k =
-    let at-offset = c .before .before in
-    let a = at-offset .before .before .before .before .before .args in
-    let o = a .operation in
-    let base = baseOf (a .x .now) (o .rn) in
-    address-from (o .slice .size) base (at-offset .offset-or-zero .result) _ k
+    let a = c .before .before .before .before .before .args in
+    let base = baseOf (a .x .now) (a .rn) in
+    address-from (a .size) base (c .before .before .offset-or-zero .result) _ k
     (c .wrapping-add-u64 .ensures ∙ ap (λ (d : ℕ). (base + d) % 2 ^ 64) (c .before .scaled .ensures))
-    ∙ ap (λ (f : ℕ). addressAt base f (bytesOf (o .slice .size)) k) (at-offset .offset-or-zero .ensures)
+    ∙ ap (λ (f : ℕ). addressAt base f (bytesOf (a .size)) k) (c .before .before .offset-or-zero .ensures)
 
 pub first-address-spec : {M : Type 1} → statement M
 first-address-spec =
     tie.close
     (tie.spec
-    (λ c. search needs)
     (λ c. search needs)
     (λ c. search needs)
     (λ c κs. search needs)

@@ -6,11 +6,5 @@ use native.Mathlib.Omega.{arith}
 use Rattle.access.proofs.address.offset_or_zero.Statement.{statement}
 use Rattle.access.proofs.address.offset_or_zero.Tie as tie
 
-returns : tie.Need-returns
-returns c = rw (eq-eqb (c .before .args .rm) 31 (omega arith))
-
-returns-2 : tie.Need-returns-2
-returns-2 c = rw (ne-eqb (c .before .before .args .rm) 31 (λ e. omega arith))
-
 pub offset-or-zero-spec : {M : Type 1} → statement M
-offset-or-zero-spec = tie.close (tie.spec returns (λ c. search needs) (λ c. search needs) returns-2)
+offset-or-zero-spec = tie.close (tie.spec (λ c. rw (eq-eqb (c .before .args .rm) 31 (omega arith))) (λ c. search needs) (λ c. search needs) (λ c. rw (ne-eqb (c .before .before .args .rm) 31 (λ e. omega arith))))

@@ -4,11 +4,5 @@ use borrow.Author.Needs.{needs}
 use Rattle.execute.proofs.array.group_stride.Statement.{statement}
 use Rattle.execute.proofs.array.group_stride.Tie as tie
 
-returns : tie.Need-returns
-returns c = rw (c .enum-told .given .1)
-
-returns-2 : tie.Need-returns-2
-returns-2 c = rw (c .enum-told2 .given .1)
-
 pub group-stride-spec : {M : Type 1} → statement M
-group-stride-spec = tie.close (tie.spec (λ c. search needs) (λ c. search needs) returns returns-2)
+group-stride-spec = tie.close (tie.spec (λ c. search needs) (λ c. search needs) (λ c. rw (c .enum-told .given .1)) (λ c. rw (c .enum-told2 .given .1)))

@@ -29,9 +29,6 @@ returns c =
 measured : (c : tie.After-lengths) → let s = c .before .before .before .before .args .settings in let l = c .lengths .result in (l .x ≡ lengthsOf s .x) × (l .z ≡ lengthsOf s .z) × (l .p ≡ lengthsOf s .p) × (l .za ≡ lengthsOf s .za)
 measured c = lengths-parts (c .before .before .before .before .args .settings) (c .lengths .result) (c .lengths .ensures)
 
-lengths-requires : tie.Need-lengths-requires
-lengths-requires c κs = settings-facts (c .before .before .before .args .settings) (ok c) .0
-
 -- lengths that are not right, and that are
 refuses : (c : tie.After-lengths) → let a = c .before .before .before .before .args in (Sized (a .settings) (a .x) (a .z) (a .p) (a .za) (a .memory) → ⊥) → ChecksBuffers (a .settings) (a .x) (a .z) (a .p) (a .za) (a .memory) (Refused BadLengths)
 refuses c = let a = c .before .before .before .before .args in bad-lengths (a .settings) (a .x) (a .z) (a .p) (a .za) (a .memory) (ok (c .before))
@@ -71,7 +68,7 @@ check-buffers-spec =
     (λ c. search needs)
     (λ c. search needs)
     returns
-    lengths-requires
+    (λ c κs. settings-facts (c .before .before .before .args .settings) (ok c) .0)
     returns-2
     returns-3
     returns-4

@@ -25,21 +25,6 @@ copy-vector-requires-5 : tie.Need-copy-vector-requires-5
 copy-vector-requires-5 c κs =
     let h = rw (c .before .enum-told5 .given .1) at (c .before .before .before .before .before .pre) in omega arith
 
-returns : tie.Need-returns
-returns c = rw (c .before .before .before .before .enum-told .given .1) (c .before .before .copy-vector .ensures)
-
-returns-2 : tie.Need-returns-2
-returns-2 c = rw (c .before .before .before .before .enum-told2 .given .1) (c .before .before .copy-vector2 .ensures)
-
-returns-3 : tie.Need-returns-3
-returns-3 c = rw (c .before .before .before .before .enum-told3 .given .1) (c .before .before .copy-vector3 .ensures)
-
-returns-4 : tie.Need-returns-4
-returns-4 c = rw (c .before .before .before .before .enum-told4 .given .1) (c .before .before .copy-vector4 .ensures)
-
-returns-5 : tie.Need-returns-5
-returns-5 c = rw (c .before .before .before .before .enum-told5 .given .1) (c .before .before .copy-vector5 .ensures)
-
 pub copy-element-spec : {M : Type 1} → statement M
 copy-element-spec =
     tie.close
@@ -55,12 +40,12 @@ copy-element-spec =
     (λ c. search needs)
     copy-vector-requires-5
     (λ c. search needs)
-    returns
+    (λ c. rw (c .before .before .before .before .enum-told .given .1) (c .before .before .copy-vector .ensures))
     (λ c. search needs)
-    returns-2
+    (λ c. rw (c .before .before .before .before .enum-told2 .given .1) (c .before .before .copy-vector2 .ensures))
     (λ c. search needs)
-    returns-3
+    (λ c. rw (c .before .before .before .before .enum-told3 .given .1) (c .before .before .copy-vector3 .ensures))
     (λ c. search needs)
-    returns-4
+    (λ c. rw (c .before .before .before .before .enum-told4 .given .1) (c .before .before .copy-vector4 .ensures))
     (λ c. search needs)
-    returns-5)
+    (λ c. rw (c .before .before .before .before .enum-told5 .given .1) (c .before .before .copy-vector5 .ensures)))

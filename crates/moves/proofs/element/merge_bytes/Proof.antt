@@ -9,35 +9,30 @@ use lib.ListN.{length, getD, length-set}
 use Rattle.general.specs.Scatter.{all}
 use Rattle.general.proofs.ScatterLaws.{scatter-none, scatter-more, scatter-end}
 use Rattle.moves.proofs.BlockLaws.{WrittenTo}
-use Rattle.moves.proofs.PartLaws.{each, scatter-by-part, scatter-picked}
+use Rattle.moves.proofs.PartLaws.{each, scatter-by-part, scatter-merged}
 use Rattle.moves.proofs.element.merge_bytes.Statement.{statement}
 use Rattle.moves.proofs.element.merge_bytes.Tie as tie
 
 abbrev Inv-loop : tie.InvT-loop
-Inv-loop dst at-dst src at-src on n part₀ i₀ part i =
-    (i ≤ n) × (length part₀ ≡ 16) × WrittenTo each all (λ (k : ℕ). cond (on) (getD src (at-src + k) 0) (getD dst (at-dst + k) 0)) part₀ i part
+Inv-loop dst at-dst src at-src on zeroing n part₀ i₀ part i =
+    (i ≤ n) × (length part₀ ≡ 16) × WrittenTo each all (λ (k : ℕ). cond on (getD src (at-src + k) 0) (cond zeroing 0 (getD dst (at-dst + k) 0))) part₀ i part
 
 abbrev μ-loop : tie.MeasureT-loop
-μ-loop dst at-dst src at-src on n part₀ i₀ part i = n - i
-
-loop-holds : tie.Need-loop-holds Inv-loop μ-loop
-loop-holds c = (omega arith, refl, (refl, scatter-none _ _ _))
+μ-loop dst at-dst src at-src on zeroing n part₀ i₀ part i = n - i
 
 loop-again : tie.Need-loop-again Inv-loop μ-loop
 loop-again c =
-    let l = c .before .before .before .before .loop in
-    (omega arith, l .inv .1, (simp length-set (l .inv .2 .0), rw (c .choose .ensures) (scatter-more _ _ _ _ _ (l .inv .2 .1) refl)))
+    let l = c .before .before .before .before .before .loop in
+    (omega arith, l .inv .1, (simp length-set (l .inv .2 .0), rw (c .choose2 .ensures, c .before .before .choose .ensures) (scatter-more _ _ _ _ _ (l .inv .2 .1) refl)))
 
 returns : tie.Need-returns Inv-loop μ-loop
 returns c =
-    let m = c .before .before in
-    let e = m .before .before .before in
-    let l = e .before .loop in
-    let a = e .before .before .before .before .args in
+    let l = c .before .before .before .before .before .before .loop in
+    let a = c .before .before .before .before .before .before .before .before .before .args in
     let val : ℕ → ℕ = λ k. getD (a .src .now) (a .at-src + k) 0 in
-    m .copy-bytes .ensures
-    ∙ scatter-by-part _ _ (λ k. cond (a .on) (val k) (getD (a .dst .now) (a .at-dst + k) 0)) _ _ _ _ (omega (arith, l .inv .1)) (scatter-end _ _ _ _ (l .inv .2 .1) (l .inv .0) (e .loop-test .left))
-    ∙ scatter-picked (a .at-dst) (λ k. a .on) val (a .dst .now) _
+    c .before .before .copy-bytes .ensures
+    ∙ scatter-by-part _ _ (λ k. cond (a .on) (val k) (cond (a .zeroing) 0 (getD (a .dst .now) (a .at-dst + k) 0))) _ _ _ _ (omega (arith, l .inv .1)) (scatter-end _ _ _ _ (l .inv .2 .1) (l .inv .0) (c .before .before .before .before .before .loop-test .left))
+    ∙ scatter-merged (a .at-dst) (a .on) (a .zeroing) val (a .dst .now) _
 
 pub merge-bytes-spec : {M : Type 1} → statement M
 merge-bytes-spec =
@@ -45,9 +40,10 @@ merge-bytes-spec =
     (tie.spec
     Inv-loop
     μ-loop
-    loop-holds
+    (λ c. (omega arith, refl, (refl, scatter-none _ _ _)))
     (λ c. search needs)
     (λ c. search needs)
+    (λ c κs. search needs)
     (λ c. search needs)
     (λ c. search needs)
     (λ c κs. search needs)

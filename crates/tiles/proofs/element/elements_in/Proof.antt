@@ -1,36 +1,9 @@
--- `tiles::element::elements_in` meets its contract: each arm divides by the bytes of its size.
+-- `tiles::element::elements_in` meets its contract: the shift divides by the bytes of the size.
 -- Assumes nothing.
 use borrow.Author.Needs.{needs}
-use native.Mathlib.Omega.{arith}
+use Rattle.tiles.proofs.LengthLaws.{bytesOf-doubled}
 use Rattle.tiles.proofs.element.elements_in.Statement.{statement}
 use Rattle.tiles.proofs.element.elements_in.Tie as tie
 
-returns : tie.Need-returns
-returns c = rw (c .enum-told .given .1) (omega arith)
-
-returns-2 : tie.Need-returns-2
-returns-2 c = rw (c .enum-told2 .given .1)
-
-returns-3 : tie.Need-returns-3
-returns-3 c = rw (c .enum-told3 .given .1)
-
-returns-4 : tie.Need-returns-4
-returns-4 c = rw (c .enum-told4 .given .1)
-
-returns-5 : tie.Need-returns-5
-returns-5 c = rw (c .enum-told5 .given .1)
-
 pub elements-in-spec : {M : Type 1} → statement M
-elements-in-spec =
-    tie.close
-    (tie.spec
-    (λ c. search needs)
-    (λ c. search needs)
-    (λ c. search needs)
-    (λ c. search needs)
-    (λ c. search needs)
-    returns
-    returns-2
-    returns-3
-    returns-4
-    returns-5)
+elements-in-spec = tie.close (tie.spec (λ c κs. search needs) (λ c. search needs) (λ c. search needs) (λ c. rw (c .doublings .ensures .0, bytesOf-doubled (c .before .args .size))))

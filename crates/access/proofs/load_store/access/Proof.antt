@@ -1,0 +1,105 @@
+-- `access::load_store::access` meets its contract: by what was prepared, the whole vector or a window of it is moved.
+-- Assumes nothing.
+use borrow.Author.Needs.{needs}
+use native.Mathlib.Omega.{arith}
+use Rattle.access.specs.Promise.{sliceAccess}
+use Rattle.access.proofs.TransferLaws.{part-end, store-paired, load-paired, stores-whole, loads-whole, stores-parts, loads-parts, short, window-fits, access-refused}
+use Rattle.access.proofs.load_store.access.Statement.{statement}
+use Rattle.access.proofs.load_store.access.Tie as tie
+
+add-end : tie.Need-add-end
+add-end c =
+    let a = c .before .before .before .before .before .before .args in
+    omega (arith, part-end (a .settings) (a .x .now) (a .p .now) (a .za .now) (a .memory .now) (sliceAccess (a .slice) (a .pg) (a .rn) (a .rm)) (c .before .before .before .before .before .before .pre .0) (c .before .before .before .before .before .before .pre .1) (c .before .prepare .result) (c .before .prepare .ensures))
+
+governing-end : tie.Need-part-governing-end
+governing-end c =
+    let a = c .before .before .before .before .before .before .args in
+    part-end (a .settings) (a .x .now) (a .p .now) (a .za .now) (a .memory .now) (sliceAccess (a .slice) (a .pg) (a .rn) (a .rm)) (c .before .before .before .before .before .before .pre .0) (c .before .before .before .before .before .before .pre .1) (c .before .prepare .result) (c .before .prepare .ensures)
+
+store-whole-requires : tie.Need-store-whole-requires
+store-whole-requires c κs =
+    let a = c .before .before .before .before .before .before .before .before .before .before .before .before .before .before .args in
+    let reach = rw (c .before .before .before .before .before .reach .given .1) at (c .before .before .before .before .before .before .before .before .before .prepare .ensures .reach) in
+    store-paired (a .settings) (a .x .now) (a .p .now) (a .za .now) (a .memory .now) (sliceAccess (a .slice) (a .pg) (a .rn) (a .rm)) (c .before .before .before .before .before .before .before .before .before .before .before .before .before .before .pre .0) (c .before .before .before .before .before .before .before .before .before .before .before .before .before .before .pre .1) (c .before .before .before .before .before .before .before .before .before .prepare .result) (c .before .before .before .before .before .before .before .before .before .prepare .ensures) _ _ (reach .1) (c .before .before .before .run-from .ensures)
+
+load-whole-requires : tie.Need-load-whole-requires
+load-whole-requires c κs =
+    let a = c .before .before .before .before .before .before .before .before .before .before .before .before .before .before .args in
+    let reach = rw (c .before .before .before .before .before .reach .given .1) at (c .before .before .before .before .before .before .before .before .before .prepare .ensures .reach) in
+    load-paired (a .settings) (a .x .now) (a .p .now) (a .za .now) (a .memory .now) (sliceAccess (a .slice) (a .pg) (a .rn) (a .rm)) (c .before .before .before .before .before .before .before .before .before .before .before .before .before .before .pre .0) (c .before .before .before .before .before .before .before .before .before .before .before .before .before .before .pre .1) (c .before .before .before .before .before .before .before .before .before .prepare .result) (c .before .before .before .before .before .before .before .before .before .prepare .ensures) _ _ (reach .1) (c .before .before .before .run-from .ensures)
+
+store-parts-requires : tie.Need-store-parts-requires
+store-parts-requires c κs =
+    let a = c .before .before .before .before .before .before .before .before .before .before .before .before .before .before .args in
+    let reach = rw (c .before .before .before .before .before .reach2 .given .1) at (c .before .before .before .before .before .before .before .before .before .prepare .ensures .reach) in
+    let g = store-paired (a .settings) (a .x .now) (a .p .now) (a .za .now) (a .memory .now) (sliceAccess (a .slice) (a .pg) (a .rn) (a .rm)) (c .before .before .before .before .before .before .before .before .before .before .before .before .before .before .pre .0) (c .before .before .before .before .before .before .before .before .before .before .before .before .before .before .pre .1) (c .before .before .before .before .before .before .before .before .before .prepare .result) (c .before .before .before .before .before .before .before .before .before .prepare .ensures) 0 _ (short (a .settings) (a .x .now) (a .p .now) (a .za .now) (a .memory .now) (sliceAccess (a .slice) (a .pg) (a .rn) (a .rm)) (c .before .before .before .before .before .before .before .before .before .before .before .before .before .before .pre .0) (c .before .before .before .before .before .before .before .before .before .before .before .before .before .before .pre .1) (c .before .before .before .before .before .before .before .before .before .prepare .result) (c .before .before .before .before .before .before .before .before .before .prepare .ensures)) (c .before .before .before .run-from2 .ensures) in
+    (g .0, g .1, window-fits (a .settings) (a .x .now) (a .p .now) (a .za .now) (a .memory .now) (sliceAccess (a .slice) (a .pg) (a .rn) (a .rm)) (c .before .before .before .before .before .before .before .before .before .before .before .before .before .before .pre .0) (c .before .before .before .before .before .before .before .before .before .before .before .before .before .before .pre .1) (c .before .before .before .before .before .before .before .before .before .prepare .result) (c .before .before .before .before .before .before .before .before .before .prepare .ensures) _ reach)
+
+load-parts-requires : tie.Need-load-parts-requires
+load-parts-requires c κs =
+    let a = c .before .before .before .before .before .before .before .before .before .before .before .before .before .before .args in
+    let reach = rw (c .before .before .before .before .before .reach2 .given .1) at (c .before .before .before .before .before .before .before .before .before .prepare .ensures .reach) in
+    let g = load-paired (a .settings) (a .x .now) (a .p .now) (a .za .now) (a .memory .now) (sliceAccess (a .slice) (a .pg) (a .rn) (a .rm)) (c .before .before .before .before .before .before .before .before .before .before .before .before .before .before .pre .0) (c .before .before .before .before .before .before .before .before .before .before .before .before .before .before .pre .1) (c .before .before .before .before .before .before .before .before .before .prepare .result) (c .before .before .before .before .before .before .before .before .before .prepare .ensures) 0 _ (short (a .settings) (a .x .now) (a .p .now) (a .za .now) (a .memory .now) (sliceAccess (a .slice) (a .pg) (a .rn) (a .rm)) (c .before .before .before .before .before .before .before .before .before .before .before .before .before .before .pre .0) (c .before .before .before .before .before .before .before .before .before .before .before .before .before .before .pre .1) (c .before .before .before .before .before .before .before .before .before .prepare .result) (c .before .before .before .before .before .before .before .before .before .prepare .ensures)) (c .before .before .before .run-from2 .ensures) in
+    (g .0, g .1, window-fits (a .settings) (a .x .now) (a .p .now) (a .za .now) (a .memory .now) (sliceAccess (a .slice) (a .pg) (a .rn) (a .rm)) (c .before .before .before .before .before .before .before .before .before .before .before .before .before .before .pre .0) (c .before .before .before .before .before .before .before .before .before .before .before .before .before .before .pre .1) (c .before .before .before .before .before .before .before .before .before .prepare .result) (c .before .before .before .before .before .before .before .before .before .prepare .ensures) _ reach)
+
+returns : tie.Need-returns
+returns c z =
+    let a = c .before .before .before .before .before .before .before .before .before .before .before .before .before .before .before .before .before .args in
+    let reach = rw (c .before .before .before .before .before .before .before .before .reach .given .1) at (c .before .before .before .before .before .before .before .before .before .before .before .before .prepare .ensures .reach) in
+    rw (c .before .before .before .before .before .if1 .taken) (stores-whole (a .settings) (a .x .now) (a .p .now) (a .za .now) (a .memory .now) (sliceAccess (a .slice) (a .pg) (a .rn) (a .rm)) (c .before .before .before .before .before .before .before .before .before .before .before .before .before .before .before .before .before .pre .0) (c .before .before .before .before .before .before .before .before .before .before .before .before .before .before .before .before .before .pre .1) (c .before .before .before .before .before .before .before .before .before .before .before .before .prepare .result) (c .before .before .before .before .before .before .before .before .before .before .before .before .prepare .ensures) z _ reach (c .before .before .before .before .before .before .run-from .ensures) (c .before .before .store-whole .ensures))
+
+returns-2 : tie.Need-returns-2
+returns-2 c z =
+    let a = c .before .before .before .before .before .before .before .before .before .before .before .before .before .before .before .before .before .args in
+    let reach = rw (c .before .before .before .before .before .before .before .before .reach .given .1) at (c .before .before .before .before .before .before .before .before .before .before .before .before .prepare .ensures .reach) in
+    rw (c .before .before .before .before .before .if1 .left) (loads-whole (a .settings) (a .x .now) (a .p .now) (a .za .now) (a .memory .now) (sliceAccess (a .slice) (a .pg) (a .rn) (a .rm)) (c .before .before .before .before .before .before .before .before .before .before .before .before .before .before .before .before .before .pre .0) (c .before .before .before .before .before .before .before .before .before .before .before .before .before .before .before .before .before .pre .1) (c .before .before .before .before .before .before .before .before .before .before .before .before .prepare .result) (c .before .before .before .before .before .before .before .before .before .before .before .before .prepare .ensures) z _ reach (c .before .before .before .before .before .before .run-from .ensures) (c .before .before .load-whole .ensures))
+
+returns-3 : tie.Need-returns-3
+returns-3 c z =
+    let a = c .before .before .before .before .before .before .before .before .before .before .before .before .before .before .before .before .before .args in
+    let reach = rw (c .before .before .before .before .before .before .before .before .reach2 .given .1) at (c .before .before .before .before .before .before .before .before .before .before .before .before .prepare .ensures .reach) in
+    rw (c .before .before .before .before .before .if2 .taken) (stores-parts (a .settings) (a .x .now) (a .p .now) (a .za .now) (a .memory .now) (sliceAccess (a .slice) (a .pg) (a .rn) (a .rm)) (c .before .before .before .before .before .before .before .before .before .before .before .before .before .before .before .before .before .pre .0) (c .before .before .before .before .before .before .before .before .before .before .before .before .before .before .before .before .before .pre .1) (c .before .before .before .before .before .before .before .before .before .before .before .before .prepare .result) (c .before .before .before .before .before .before .before .before .before .before .before .before .prepare .ensures) z _ reach (c .before .before .before .before .before .before .run-from2 .ensures) (c .before .before .store-parts .ensures))
+
+returns-4 : tie.Need-returns-4
+returns-4 c z =
+    let a = c .before .before .before .before .before .before .before .before .before .before .before .before .before .before .before .before .before .args in
+    let reach = rw (c .before .before .before .before .before .before .before .before .reach2 .given .1) at (c .before .before .before .before .before .before .before .before .before .before .before .before .prepare .ensures .reach) in
+    rw (c .before .before .before .before .before .if2 .left) (loads-parts (a .settings) (a .x .now) (a .p .now) (a .za .now) (a .memory .now) (sliceAccess (a .slice) (a .pg) (a .rn) (a .rm)) (c .before .before .before .before .before .before .before .before .before .before .before .before .before .before .before .before .before .pre .0) (c .before .before .before .before .before .before .before .before .before .before .before .before .before .before .before .before .before .pre .1) (c .before .before .before .before .before .before .before .before .before .before .before .before .prepare .result) (c .before .before .before .before .before .before .before .before .before .before .before .before .prepare .ensures) z _ reach (c .before .before .before .before .before .before .run-from2 .ensures) (c .before .before .load-parts .ensures))
+
+returns-5 : tie.Need-returns-5
+returns-5 c z =
+    let a = c .before .before .before .before .before .before .before .before .before .before .args in
+    access-refused (a .settings) (a .x .now) z (a .p .now) (a .za .now) (a .memory .now) (sliceAccess (a .slice) (a .pg) (a .rn) (a .rm)) (a .stores) _ (rw (c .before .reach3 .given .1) at (c .before .before .before .before .before .prepare .ensures .reach))
+
+pub access-spec : {M : Type 1} → statement M
+access-spec =
+    tie.close
+    (tie.spec
+    (λ c κs. search needs)
+    add-end
+    (λ c. search needs)
+    (λ c. search needs)
+    governing-end
+    (λ c. search needs)
+    (λ c κs. search needs)
+    store-whole-requires
+    load-whole-requires
+    (λ c. search needs)
+    (λ c κs. search needs)
+    store-parts-requires
+    load-parts-requires
+    (λ c. search needs)
+    (λ c. search needs)
+    (λ c. search needs)
+    returns
+    (λ c. search needs)
+    (λ c. search needs)
+    returns-2
+    (λ c. search needs)
+    (λ c. search needs)
+    returns-3
+    (λ c. search needs)
+    (λ c. search needs)
+    returns-4
+    returns-5)
