@@ -77,7 +77,7 @@ pub fn merge(dst: &mut [u8], to: Span, src: &[u8], from: Span, p: &[u8], size: E
     if is_merged_run(to, from, size) {
         merge_run(dst, to.start, src, from.start, p, size);
     } else {
-        merge_sized(dst, to, src, from, p, size, false);
+        merge_sized(dst, anew(to), src, anew(from), p, size, false);
     }
 }
 
@@ -90,7 +90,7 @@ pub fn replace(dst: &mut [u8], to: Span, src: &[u8], from: Span, p: &[u8], size:
         clear_bytes(dst, to.start, 8 * p.len());
         merge_run(dst, to.start, src, from.start, p, size);
     } else {
-        merge_sized(dst, to, src, from, p, size, true);
+        merge_sized(dst, anew(to), src, anew(from), p, size, true);
     }
 }
 
@@ -102,4 +102,16 @@ fn is_merged_run(a: Span, b: Span, size: ElementSize) -> bool
         return false;
     }
     are_runs(a, b, size)
+}
+
+// The same span, made where it is handed on. A record that a call takes goes through memory, and is stored where it is made:
+// so the spans are not stored where elements are merged as a run.
+fn anew(span: Span) -> Span
+    ensures { λ r. ⌜ r ≡ span ⌝ }
+{
+    Span {
+        start: span.start,
+        step: span.step,
+        count: span.count,
+    }
 }

@@ -12,6 +12,9 @@ merge-run-requires c κs =
     let g = runs-governed (c .before .before .before .before .before .before .pre .0) (runs .0) (runs .1) (c .before .before .before .before .before .before .pre .1) in
     (runs .2, g .0, g .1, g .2)
 
+merge-sized-requires : tie.Need-merge-sized-requires
+merge-sized-requires c κs = rw (c .anew2 .ensures, c .before .anew .ensures) (c .before .before .before .before .before .before .before .before .pre)
+
 returns : tie.Need-returns
 returns c =
     let runs = merged-run-steps (c .before .before .before .before .before .before .before .before .before .args .to) (c .before .before .before .before .before .before .before .before .before .args .from) (c .before .before .before .before .before .before .before .before .before .args .size) (c .before .before .before .before .before .is-merged-run .ensures) (c .before .before .before .before .if1 .taken) in
@@ -25,7 +28,9 @@ merge-spec =
     (λ c κs. search needs)
     merge-run-requires
     (λ c κs. search needs)
+    (λ c κs. search needs)
+    merge-sized-requires
     (λ c. search needs)
     returns
     (λ c. search needs)
-    (λ c. search needs))
+    (λ c. rw (c .before .before .before .anew2 .ensures, c .before .before .before .before .anew .ensures) at (c .before .before .merge-sized .ensures)))
