@@ -105,12 +105,24 @@ access-refused s x z p za memory o false r e = record { answer = e; state = refl
 
 -- ---- what was prepared serves each of the four ways
 
-module _ (s : Settings) (x p za memory : List ℕ) (o : SliceAccess) (h : Sized s (length x) (lengthsOf s .z) (length p) (length za) (length memory)) (range : AccessInRange o) (r : Prepared) (q : Prepares s x p (length memory) o r) where
+-- what is known of a load or store once it is prepared
+pub record Primed (s : Settings) (x p za memory : List ℕ) (o : SliceAccess) (r : Prepared) : Type 0 where
+  pub sized : Sized s (length x) (lengthsOf s .z) (length p) (length za) (length memory)
+  pub range : AccessInRange o
+  pub prepares : Prepares s x p (length memory) o r
+
+module _ {s : Settings} {x p za memory : List ℕ} {o : SliceAccess} {r : Prepared} (primed : Primed s x p za memory o r) where
+  abbrev h : Sized s (length x) (lengthsOf s .z) (length p) (length za) (length memory)
+  h = primed .sized
+
+  abbrev q : Prepares s x p (length memory) o r
+  q = primed .prepares
+
   abbrev m : ℕ
   m = bytesOf (o .slice .size)
 
   pub few : o .pg < 16
-  few = omega (arith, range .predicate)
+  few = omega (arith, primed .range .predicate)
 
   -- the bytes of the governing predicate
   abbrev part : List ℕ
@@ -128,7 +140,7 @@ module _ (s : Settings) (x p za memory : List ℕ) (o : SliceAccess) (h : Sized 
       part-active s (h .vector) p (h .p) (o .pg) few (r .predicate) (q .predicate) m k v ∙ ap (λ (i : ℕ). active p i m k) (q .predicate)
 
   slice-at : Spanned (r .slice) m (s .«vector_bytes») (length za) (sliceByte s x (o .slice))
-  slice-at = rw (q .slice) (slice-spanned s (h .vector) x (o .slice) (range .slice .tile) (length za) (omega (arith, h .za)))
+  slice-at = rw (q .slice) (slice-spanned s (h .vector) x (o .slice) (primed .range .slice .tile) (length za) (omega (arith, h .za)))
 
   module _ (at long : ℕ) (fits : at + s .«vector_bytes» ≤ long) {v : Span} (e : v ≡ runFrom s (o .slice .size) at) where
     run-at : Spanned v m (s .«vector_bytes») long (onwards at)
