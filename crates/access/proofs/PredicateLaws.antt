@@ -64,6 +64,21 @@ unfolding active
 zero-inactive p base s j k e z =
     rw (same-byte s j k e, z, zero-div (2 ^ (j / bytesOf s * bytesOf s % 8)))
 
+-- bytes from k on up to the end of its element are of that element, and it ends behind k
+pub same-element : (s : ElementSize) (j k : ℕ) → k ≤ j → j < k / bytesOf s * bytesOf s + bytesOf s → k / bytesOf s * bytesOf s ≡ j / bytesOf s * bytesOf s
+same-element Bits8 j k w v = omega arith
+same-element Bits16 j k w v = omega arith
+same-element Bits32 j k w v = omega arith
+same-element Bits64 j k w v = omega arith
+same-element Bits128 j k w v = omega arith
+
+pub element-ends : (s : ElementSize) (k : ℕ) → k < k / bytesOf s * bytesOf s + bytesOf s
+element-ends Bits8 k = omega arith
+element-ends Bits16 k = omega arith
+element-ends Bits32 k = omega arith
+element-ends Bits64 k = omega arith
+element-ends Bits128 k = omega arith
+
 -- a byte by the bit of its element's first byte i
 module _ (p : List ℕ) (base : ℕ) (s : ElementSize) (k : ℕ) {i : ℕ} (e : i ≡ k / bytesOf s * bytesOf s) where
   pub bit-active : getD p (base + i / 8) 0 / 2 ^ (i % 8) % 2 ≡ 1 → active p base (bytesOf s) k ≡ true

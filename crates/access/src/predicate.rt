@@ -16,12 +16,14 @@ fn element_start(k: usize, size: ElementSize) -> usize
     k >> d << d
 }
 
-// The first byte from byte `from` on, and before byte n, that is of an active element; n where there is none. It goes by
-// predicate bytes, which start at index base of p: no element is active under one that is zero.
+// The first byte from byte `from` on, and before byte n, that is of an active element; n where there is none. The predicate's
+// bytes start at index base of p. It goes on by predicate bytes that are zero, under which no element is active, and by
+// elements that are not.
 pub(crate) fn first_active(p: &[u8], base: usize, size: ElementSize, from: usize, n: usize) -> usize
     requires { ⌜ (base * 8 + n ≤ 8 * length (now p)) × (n ≤ maxVectorBytes) ⌝ }
     ensures { λ r. ⌜ First (active (now (p .entry)) base (bytesOf size)) from n r ⌝ }
 {
+    let m = size.bytes() as usize;
     let mut k = from;
     while k < n {
         let i = element_start(k, size);
@@ -32,7 +34,7 @@ pub(crate) fn first_active(p: &[u8], base: usize, size: ElementSize, from: usize
             if (b >> (i % 8)) % 2 == 1 {
                 return k;
             }
-            k += 1;
+            k = i + m;
         }
     }
     n

@@ -102,7 +102,7 @@ fn find_reach(
     Reach::Parts(window)
 }
 
-// What a load or store goes by, of one or the other.
+// What a load goes by, and a store alike.
 pub(crate) fn prepare(
     slice: TileSlice,
     pg: u8,
