@@ -75,11 +75,11 @@ fn a_command_line_that_is_not_understood_has_status_2() {
 fn lines_are_chosen_by_a_part_of_their_name() {
     let printed = quick("m=4, vertical, first half, memory ends", &[]);
     let lines: Vec<_> = printed.lines().collect();
-    // A heading of two lines, loads and stores at three lengths beside the same with room, and the goals.
-    assert_eq!(lines.len(), 2 + 3 * 2 * 2 + 1, "{printed}");
+    // A heading of two lines, loads and stores at five lengths beside the same with room, and the goals.
+    assert_eq!(lines.len(), 2 + 5 * 2 * 2 + 1, "{printed}");
     assert!(lines[2].starts_with("load, m=4, vertical, first half "));
     assert!(lines[3].starts_with("load, m=4, vertical, first half, memory ends inside "));
-    assert!(lines[14].contains("goals met"));
+    assert!(lines[22].contains("goals met"));
     let (status, message) = failure(&["--only", "nowhere"]);
     assert_eq!(status, Some(1));
     assert_eq!(message, "bench: no line has 'nowhere' in its name\n");
@@ -91,7 +91,7 @@ fn a_saved_run_is_compared_with_a_later_one() {
     quick("answer 1, level", &["--save", text(&first)]);
     let saved = fs::read_to_string(&first).expect("it was written");
     let lines: Vec<_> = saved.lines().collect();
-    assert_eq!(lines.len(), 4);
+    assert_eq!(lines.len(), 6);
     assert_eq!(lines[0], HEADING);
     assert!(lines[1].starts_with("answer 1, level 4\t16\t"), "{saved}");
     let arguments = ["--against", text(&first), "--save", text(&second)];
@@ -99,14 +99,14 @@ fn a_saved_run_is_compared_with_a_later_one() {
     for part in [
         "now/then",
         " the same within 5 %",
-        "\nanswer 1     3 ",
-        "\nall          3 ",
-        "3 rows that only this run has:\n  answer 1, vector length one more     16\n",
+        "\nanswer 1     5 ",
+        "\nall          5 ",
+        "5 rows that only this run has:\n  answer 1, vector length one more     16\n",
     ] {
         assert!(printed.contains(part), "{part:?} in {printed}");
     }
     let saved = fs::read_to_string(&second).expect("it was written");
-    assert_eq!(saved.lines().count(), 7);
+    assert_eq!(saved.lines().count(), 11);
 }
 
 #[test]

@@ -62,7 +62,7 @@ usage: bench [--quick] [--only TEXT] [--save FILE] [--against FILE]
 pub const HELP: &str = "\
 usage: bench [--quick] [--only TEXT] [--save FILE] [--against FILE]
 Times the archive's function, in nanoseconds per call: the least of many batches, which go round
-over all lines, and within a line from contestant to contestant. It takes less than a minute.
+over all lines, and within a line from contestant to contestant. It takes a little over a minute.
 
   --quick          an eighth of the batches: for a look, not for comparing
   --only TEXT      only the lines whose name contains TEXT, and those that they are set beside
@@ -84,8 +84,10 @@ over all lines, and within a line from contestant to contestant. It takes less t
              taken and given up; a goal that is missed is marked
 
 m is the bytes of an element. Active are all elements, every second (alternating), every eighth
-(sparse, the first alone where there are no more than eight), none, a half, or the last alone. A
-line that is called after an answer is refused with it.
+(sparse, the first alone where there are no more than eight), none, a half, or the last alone; or
+none although every bit of the predicate is set that no element goes by (stray). A line that is
+called after an answer is refused with it. A misaligned stack pointer is refused only where an
+element is active.
 
 A saved table holds the times of one machine: only runs on the same machine compare, while it does
 nothing else. SME_MOVE_LIB_DIR chooses the archive when the program is built, so an old archive and

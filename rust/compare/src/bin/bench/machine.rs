@@ -72,6 +72,11 @@ impl Machine {
         self.memory.narrow(middle..end);
     }
 
+    /// Has a stack pointer that is no multiple of 16.
+    pub fn misalign_stack(&mut self) {
+        self.x[31] = ADDRESS + 8;
+    }
+
     /// Where the middle of that vector is in memory with room to spare.
     fn middle(&self) -> usize {
         self.settings.vector_bytes as usize * 3 / 2
@@ -92,6 +97,7 @@ impl Machine {
 #[cfg(test)]
 mod tests {
     use super::*;
+    use crate::list::VECTOR_LENGTHS;
     use std::collections::HashSet;
 
     /// How far into a page some bytes of a buffer are.
@@ -103,7 +109,7 @@ mod tests {
 
     #[test]
     fn rows_read_and_write_at_other_places() {
-        for vector_bytes in [16, 64, 256] {
+        for vector_bytes in VECTOR_LENGTHS {
             let machine = Machine::new(vector_bytes, &[]);
             let register = places(&machine.z, vector_bytes, vector_bytes);
             let in_memory = places(&machine.memory, vector_bytes, vector_bytes);
@@ -125,7 +131,7 @@ mod tests {
 
     #[test]
     fn copies_and_groups_read_and_write_at_other_places() {
-        for vector_bytes in [16, 64, 256] {
+        for vector_bytes in VECTOR_LENGTHS {
             let machine = Machine::new(vector_bytes, &[]);
             for count in [1, 2, 4] {
                 let length = count * vector_bytes;

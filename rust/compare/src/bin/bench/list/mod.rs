@@ -11,7 +11,7 @@ use crate::active::{Active, USUAL};
 use crate::task::{Callee, Task};
 use sliced::{Form, FROM_TILE, LOAD, STORE, TO_TILE, ZEROING_FROM_TILE};
 
-pub const VECTOR_LENGTHS: [usize; 3] = [16, 64, 256];
+pub const VECTOR_LENGTHS: [usize; 5] = [16, 32, 64, 128, 256];
 
 /// The lines of a vector length, in groups: those of a group are timed in
 /// turns, and all but its first are set beside the first.

@@ -1,9 +1,11 @@
 //! Calls that are refused, for each answer that refuses execution (document
 //! 01, section 6).
 
-use super::sliced::{Form, Sliced, ELEMENT_BYTES, LOAD, STORE, TO_TILE, ZEROING_FROM_TILE};
+use super::sliced::{
+    based_on_stack, Form, Sliced, ELEMENT_BYTES, LOAD, STORE, TO_TILE, ZEROING_FROM_TILE,
+};
 use crate::active::Active;
-use crate::machine::{Machine, ADDRESS};
+use crate::machine::Machine;
 use crate::task::Task;
 
 /// What is wrong with a machine: the answer, what a line says of it, and how
@@ -81,10 +83,7 @@ fn level_too_low(good: &Task) -> Task {
 /// last element is active, so that all are looked at.
 fn misaligned(access: Task) -> Task {
     let why = format!("{}, last, stack misaligned", access.name);
-    Task {
-        word: access.word | 31 << 5,
-        ..access.refused(6, &why, |machine| machine.x[31] = ADDRESS + 8)
-    }
+    based_on_stack(&access).refused(6, &why, Machine::misalign_stack)
 }
 
 /// The first byte is not in memory, or those from the middle on are not.

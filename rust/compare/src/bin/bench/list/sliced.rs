@@ -90,6 +90,14 @@ pub const STORE: Sliced = Sliced {
     goal: goal_of_access,
 };
 
+/// The same load or store with the stack pointer, register 31, as its base.
+pub fn based_on_stack(access: &Task) -> Task {
+    Task {
+        word: access.word | 31 << 5,
+        ..access.clone()
+    }
+}
+
 /// In what form an operation is timed.
 #[derive(Clone, Copy)]
 pub struct Form {

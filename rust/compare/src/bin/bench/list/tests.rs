@@ -124,11 +124,13 @@ fn words_decode_to_what_names_say() {
         assert_eq!(fields.tile, u8::from(task.element_bytes > 1));
         assert_eq!((fields.offset, fields.index, fields.predicate), (0, 12, 0));
         let is_access = ["load", "store"].contains(&kind);
+        let on_stack = task.name.ends_with("stack misaligned");
+        let base = if on_stack { 31 } else { 1 };
         let registers = [fields.vector, fields.base, fields.offset_register];
-        assert_eq!(registers, if is_access { [0, 1, 2] } else { [1, 0, 0] });
+        assert_eq!(registers, if is_access { [0, base, 2] } else { [1, 0, 0] });
         seen += 1;
     }
-    assert_eq!(seen, 254);
+    assert_eq!(seen, 288);
 }
 
 #[test]
@@ -224,6 +226,33 @@ fn other_cliffs_and_refusals_are_there() {
             .iter()
             .filter(|task| task.name.ends_with("m=16, vertical, last"));
         assert_eq!(alone.count(), if vector_bytes == 16 { 0 } else { 4 });
+    }
+}
+
+/// Columns under stray bits, of which no predicate byte is empty, and rows
+/// whose base is a misaligned stack pointer: all are done.
+#[test]
+fn cliffs_without_an_active_element_are_there() {
+    for vector_bytes in VECTOR_LENGTHS {
+        let tasks = tasks(vector_bytes);
+        let done = |end| {
+            let done = tasks.iter().filter(|task| task.answer == 0);
+            done.filter(move |task| task.name.ends_with(end))
+        };
+        let [columns, none, stray] = [
+            "vertical, stray",
+            "horizontal, none, stack misaligned",
+            "horizontal, stray, stack misaligned",
+        ];
+        let counts = [columns, none, stray].map(|end| done(end).count());
+        assert_eq!(counts, [16, 10, 8]);
+        for task in done(columns).chain(done(stray)) {
+            let machine = task.machine();
+            assert!(!machine.p[..vector_bytes / 8].contains(&0), "{}", task.name);
+        }
+        for task in done("stack misaligned") {
+            assert_eq!(task.machine().x[31] % 16, 8, "{}", task.name);
+        }
     }
 }
 
