@@ -5,11 +5,30 @@
  * allocation, no global and no last error. Every word, setting and buffer length has an answer; a refusal
  * changes no buffer. Calls on different buffers may run at once.
  *
- * No two of the buffers and results of one call may overlap. An empty memory and an empty array of tiles may be
- * (NULL, 0); every other pointer must point to as many items as its length says, aligned for its type.
+ * No two of the buffers and results of one call may overlap. An empty memory and an empty array of settings, results or
+ * tiles may be (NULL, 0); every other pointer must point to as many items as its length says, aligned for its type.
  *
- * Hosts call the wrappers at the end, which take settings as a record made by sme_settings_new, and held tiles as
- * one made by sme_held_none: a host's source then stays as it is when a later version adds a setting.
+ * Hosts call the wrappers in the second half, which take settings as a record made by sme_settings_new, and held tiles
+ * as one made by sme_held_none. The archive's own functions take settings and results as arrays with a count. So a
+ * later version that adds a setting or a result changes no function: a host's source stays as it is, and so does an
+ * object file, whose machine then has the added setting as new settings have it. An object file made with this header
+ * does not link with an archive that is older than the header.
+ *
+ * Three things that a host needs to know of the machine, where B is the vector length in bytes and m the bytes of an
+ * element:
+ *
+ * When an element is active. Element e of a vector is its bytes e*m to e*m + m-1. It is active under a predicate
+ * exactly if bit e*m of that predicate is 1; the other bits are not looked at. Bit i of a predicate is bit i modulo 8,
+ * counted from the lowest, of its byte i/8. So a predicate whose bytes are all 0xFF makes every element of every size
+ * active.
+ *
+ * Which slice is meant. A tile has n = B/m slices in each direction. A word names the slice (W + offset) modulo n,
+ * where W is the low 32 bits of its index register. A word that moves r vectors of the array (2 or 4) begins with
+ * vector (W + offset) modulo B/r, and the others are each B/r further.
+ *
+ * Where a tile's slices lie in the array. Row s of tile t, its horizontal slice s, is vector s*m + t, whole. Element e
+ * of column s, its vertical slice s, is bytes s*m to s*m + m-1 of vector e*m + t. So the rows of a tile are m vectors
+ * apart.
  */
 #ifndef SME_MOVE_H
 #define SME_MOVE_H
@@ -18,8 +37,10 @@
 #include <stddef.h>
 #include <stdint.h>
 
+/* The version of this header; sme_version tells the archive's, and both as one number can be compared. */
 #define SME_MOVE_VERSION_MAJOR 0
-#define SME_MOVE_VERSION_MINOR 4
+#define SME_MOVE_VERSION_MINOR 5
+#define SME_MOVE_VERSION (65536 * SME_MOVE_VERSION_MAJOR + SME_MOVE_VERSION_MINOR)
 
 #ifdef __cplusplus
 extern "C" {
@@ -40,7 +61,7 @@ enum sme_answer {
     SME_UNDECODABLE = 3,
     /* streaming mode is off */
     SME_STREAMING_OFF = 4,
-    /* ZA is off */
+    /* the array is off */
     SME_ZA_OFF = 5,
     /* the stack pointer is the base of a load or store with an active element, and is no multiple of 16 */
     SME_STACK_MISALIGNED = 6,
@@ -84,7 +105,7 @@ enum sme_field {
     SME_FIELD_KIND,
     /* m: 1, 2, 4, 8 or 16 */
     SME_FIELD_ELEMENT_BYTES,
-    /* 0 horizontal, 1 vertical */
+    /* one of enum sme_direction */
     SME_FIELD_DIRECTION,
     /* below m */
     SME_FIELD_TILE,
@@ -104,6 +125,12 @@ enum sme_field {
     SME_FIELD_VECTOR_REGISTERS,
     /* how many fields there are */
     SME_FIELD_COUNT
+};
+
+/* Which way a tile's slices go: rows or columns. */
+enum sme_direction {
+    SME_HORIZONTAL = 0,
+    SME_VERTICAL = 1
 };
 
 /*
@@ -131,30 +158,65 @@ enum sme_kind {
 };
 
 /*
+ * The settings of a machine as an array of numbers; these are their places. The first two must be given. Later ones
+ * may be missing, from the end on, and then are as sme_settings_new has them. Fewer than two numbers, or more than
+ * there are settings, are settings that no machine has: every call then returns SME_BAD_SETTINGS.
+ */
+enum sme_setting {
+    /* the streaming vector length in bytes, B: 16, 32, 64, 128 or 256 */
+    SME_SETTING_VECTOR_BYTES,
+    /* the feature level: 0 none, 1 SME, 2 SME2, 3 SME2.1 */
+    SME_SETTING_LEVEL,
+    /* whether streaming mode is on: 0 is off, any other number on */
+    SME_SETTING_STREAMING,
+    /* whether the array is on, likewise */
+    SME_SETTING_ZA_ON,
+    /* the address of memory's first byte */
+    SME_SETTING_MEMORY_ADDRESS,
+    /* how many settings this header knows */
+    SME_SETTING_COUNT
+};
+
+/*
+ * The results of an execution as an array of numbers; these are their places. As many are written as the array has
+ * places for; what is behind them stays as it was.
+ */
+enum sme_result {
+    /* the address that SME_OUTSIDE_MEMORY carries, 0 with any other answer */
+    SME_RESULT_ADDRESS,
+    /* how many results this header knows */
+    SME_RESULT_COUNT
+};
+
+/*
+ * The version of the archive, as one number like SME_MOVE_VERSION. An archive has such a function for its own version
+ * and for each before it whose hosts it serves; so one that is older than a host's header does not link.
+ */
+uint32_t sme_version_0_5(void);
+
+/*
  * Executes one instruction word.
  *
- * vector_bytes    the streaming vector length in bytes, B
- * level           the feature level: 0 none, 1 SME, 2 SME2, 3 SME2.1
- * streaming       whether streaming mode is on
- * za_on           whether ZA is on
- * memory_address  the address of memory's first byte
+ * settings, settings_count
+ *                 an array as of enum sme_setting
  * word            the instruction word
  * x, x_count      31 general-purpose registers and, as number 31, the stack pointer; read only
  * z, z_bytes      32 vector registers of B bytes, one after another
  * p, p_bytes      16 predicate registers of B/8 bytes, one after another, a bit for each byte of a
  *                 vector, lowest first; read only
- * za, za_bytes    B vectors of B bytes, vector 0 first
+ * za, za_bytes    the array: B vectors of B bytes, vector 0 first
  * memory, memory_bytes
- *                 memory of any length, from memory_address on
- * address         always written: the address that answer 7 carries, 0 with any other
+ *                 memory of any length, from the settings' memory address on
+ * results, results_count
+ *                 an array as of enum sme_result, written whatever the answer
  *
  * Returns an enum sme_answer from 0 to 7. Only answer 0 changes z, za or memory. Only a store writes memory, and it
  * writes nothing else; a load writes za only, also where no element is active.
  */
-uint32_t sme_execute(uint64_t vector_bytes, uint64_t level, bool streaming, bool za_on,
-                     uint64_t memory_address, uint32_t word, const uint64_t *x, size_t x_count,
-                     uint8_t *z, size_t z_bytes, const uint8_t *p, size_t p_bytes, uint8_t *za,
-                     size_t za_bytes, uint8_t *memory, size_t memory_bytes, uint64_t *address);
+uint32_t sme_execute_word(const uint64_t *settings, size_t settings_count, uint32_t word, const uint64_t *x,
+                          size_t x_count, uint8_t *z, size_t z_bytes, const uint8_t *p, size_t p_bytes,
+                          uint8_t *za, size_t za_bytes, uint8_t *memory, size_t memory_bytes,
+                          uint64_t *results, size_t results_count);
 
 /*
  * Decodes a word at a feature level.
@@ -176,17 +238,19 @@ uint32_t sme_decode(uint32_t word, uint64_t level, uint8_t *fields);
  */
 uint32_t sme_encode(const uint8_t *fields, uint32_t *word);
 
-/* SME_DONE where settings may have this vector length and feature level, else SME_BAD_SETTINGS. */
-uint32_t sme_check_settings(uint64_t vector_bytes, uint64_t level);
+/* SME_DONE where a machine may have these settings, an array as of enum sme_setting, else SME_BAD_SETTINGS. */
+uint32_t sme_check(const uint64_t *settings, size_t settings_count);
 
 /*
- * The lengths that a vector length fixes.
+ * The lengths that the vector length of these settings fixes, which alone is checked.
  *
+ * settings, settings_count
+ *          an array as of enum sme_setting
  * lengths  four numbers, written with answer 0 only: X in numbers, Z, P and ZA in bytes
  *
  * Returns SME_DONE, or SME_BAD_SETTINGS for a vector length that is not allowed.
  */
-uint32_t sme_lengths(uint64_t vector_bytes, uint64_t *lengths);
+uint32_t sme_measure(const uint64_t *settings, size_t settings_count, uint64_t *lengths);
 
 /*
  * Takes one more tile: the lowest-numbered one of the asked element size that shares no byte with a held one. It then
@@ -205,7 +269,7 @@ uint32_t sme_lengths(uint64_t vector_bytes, uint64_t *lengths);
  * Returns SME_DONE; SME_OUT_OF_RANGE where m is none of the five; else SME_BAD_HELD where the held tiles are not as
  * they should be, or where a tile is free and tiles has no place for it; else SME_NO_FREE_TILE, exactly when no tile
  * of m bytes is free. A refusal changes neither tiles nor count. Answer 0 writes the two numbers behind the held
- * tiles; the others stay as they are, and no number behind the held tiles is read for the answer.
+ * tiles; the others stay as they are, and what stands behind the held tiles does not count for the answer.
  */
 uint32_t sme_take_tile(uint64_t *tiles, size_t tiles_count, size_t *count, uint64_t element_bytes,
                        uint64_t *tile);
@@ -263,6 +327,20 @@ typedef struct sme_held {
 } sme_held;
 
 /*
+ * The version of the archive that the host is linked with. sme_version_fits tells whether that archive serves hosts of
+ * this header: of the same major version, and no older.
+ */
+static inline uint32_t sme_version(void)
+{
+    return sme_version_0_5();
+}
+
+static inline bool sme_version_fits(void)
+{
+    return sme_version() / 65536 == SME_MOVE_VERSION_MAJOR && sme_version() % 65536 >= SME_MOVE_VERSION_MINOR;
+}
+
+/*
  * Settings of this vector length and level, with both switches off and memory at address 0. They are not
  * checked here: sme_settings_check does, and so does execution.
  */
@@ -274,7 +352,19 @@ static inline sme_settings sme_settings_new(uint64_t vector_bytes, uint64_t leve
     settings.streaming = false;
     settings.za_on = false;
     settings.memory_address = 0;
+    /* For the linker: an archive that is too old to know all these settings has no such function. */
+    (void)sme_version();
     return settings;
+}
+
+/* The settings as the array that the archive's functions take. */
+static inline void sme_settings_give(sme_settings settings, uint64_t given[SME_SETTING_COUNT])
+{
+    given[SME_SETTING_VECTOR_BYTES] = settings.vector_bytes;
+    given[SME_SETTING_LEVEL] = settings.level;
+    given[SME_SETTING_STREAMING] = settings.streaming;
+    given[SME_SETTING_ZA_ON] = settings.za_on;
+    given[SME_SETTING_MEMORY_ADDRESS] = settings.memory_address;
 }
 
 /* The same settings with one changed. */
@@ -311,7 +401,7 @@ static inline const char *sme_answer_text(uint32_t answer)
     case SME_STREAMING_OFF:
         return "streaming mode is off";
     case SME_ZA_OFF:
-        return "ZA is off";
+        return "the array is off";
     case SME_STACK_MISALIGNED:
         return "the stack pointer is no multiple of 16";
     case SME_OUTSIDE_MEMORY:
@@ -330,13 +420,32 @@ static inline const char *sme_answer_text(uint32_t answer)
 /* SME_DONE or SME_BAD_SETTINGS. */
 static inline uint32_t sme_settings_check(sme_settings settings)
 {
-    return sme_check_settings(settings.vector_bytes, settings.level);
+    uint64_t given[SME_SETTING_COUNT];
+    sme_settings_give(settings, given);
+    return sme_check(given, SME_SETTING_COUNT);
 }
 
-/* sme_lengths for the vector length of these settings, which alone is checked. */
+/*
+ * New settings that are checked: SME_DONE with those of sme_settings_new in settings, or SME_BAD_SETTINGS with the
+ * refused ones, which are the shortest vectors and level 0.
+ */
+static inline uint32_t sme_settings_make(uint64_t vector_bytes, uint64_t level, sme_settings *settings)
+{
+    uint32_t answer;
+    *settings = sme_settings_new(vector_bytes, level);
+    answer = sme_settings_check(*settings);
+    if (answer != SME_DONE) {
+        *settings = sme_settings_new(SME_MIN_VECTOR_BYTES, 0);
+    }
+    return answer;
+}
+
+/* sme_measure for these settings, of which the vector length alone is checked. */
 static inline uint32_t sme_settings_lengths(sme_settings settings, uint64_t *lengths)
 {
-    return sme_lengths(settings.vector_bytes, lengths);
+    uint64_t given[SME_SETTING_COUNT];
+    sme_settings_give(settings, given);
+    return sme_measure(given, SME_SETTING_COUNT, lengths);
 }
 
 /* sme_decode at the level of these settings, which alone is checked. */
@@ -345,14 +454,15 @@ static inline uint32_t sme_settings_decode(sme_settings settings, uint32_t word,
     return sme_decode(word, settings.level, fields);
 }
 
-/* sme_execute with these settings and buffers. */
+/* sme_execute_word with these settings and buffers; address is always written, and is the first result. */
 static inline uint32_t sme_settings_execute(sme_settings settings, uint32_t word, sme_buffers buffers,
                                             uint64_t *address)
 {
-    return sme_execute(settings.vector_bytes, settings.level, settings.streaming, settings.za_on,
-                       settings.memory_address, word, buffers.x, buffers.x_count, buffers.z,
-                       buffers.z_bytes, buffers.p, buffers.p_bytes, buffers.za, buffers.za_bytes,
-                       buffers.memory, buffers.memory_bytes, address);
+    uint64_t given[SME_SETTING_COUNT];
+    sme_settings_give(settings, given);
+    return sme_execute_word(given, SME_SETTING_COUNT, word, buffers.x, buffers.x_count, buffers.z, buffers.z_bytes,
+                            buffers.p, buffers.p_bytes, buffers.za, buffers.za_bytes, buffers.memory,
+                            buffers.memory_bytes, address, 1);
 }
 
 /* No held tiles. */
@@ -376,6 +486,33 @@ static inline uint32_t sme_held_take(sme_held *held, uint64_t element_bytes, uin
 static inline uint32_t sme_held_give_up(sme_held *held, uint64_t element_bytes, uint64_t tile)
 {
     return sme_give_up_tile(held->tiles, 2 * SME_MAX_HELD, &held->count, element_bytes, tile);
+}
+
+/*
+ * What the archive had before version 0.5, for source that calls it: one parameter for each setting, and the address
+ * as a place of its own. An object file that was made with the header of that time does not link with this archive.
+ */
+static inline uint32_t sme_execute(uint64_t vector_bytes, uint64_t level, bool streaming, bool za_on,
+                                   uint64_t memory_address, uint32_t word, const uint64_t *x, size_t x_count,
+                                   uint8_t *z, size_t z_bytes, const uint8_t *p, size_t p_bytes, uint8_t *za,
+                                   size_t za_bytes, uint8_t *memory, size_t memory_bytes, uint64_t *address)
+{
+    sme_settings settings = sme_settings_new(vector_bytes, level);
+    sme_buffers buffers = {x, x_count, z, z_bytes, p, p_bytes, za, za_bytes, memory, memory_bytes};
+    settings.streaming = streaming;
+    settings.za_on = za_on;
+    settings.memory_address = memory_address;
+    return sme_settings_execute(settings, word, buffers, address);
+}
+
+static inline uint32_t sme_check_settings(uint64_t vector_bytes, uint64_t level)
+{
+    return sme_settings_check(sme_settings_new(vector_bytes, level));
+}
+
+static inline uint32_t sme_lengths(uint64_t vector_bytes, uint64_t *lengths)
+{
+    return sme_settings_lengths(sme_settings_new(vector_bytes, 0), lengths);
 }
 
 #endif

@@ -9,7 +9,7 @@ out=target/header
 wrong=$out/wrong
 rm -rf "$out"
 mkdir -p "$wrong"
-sanitize=(-fsanitize=address,undefined -fno-sanitize-recover=all)
+sanitize=("-fsanitize=address,undefined" -fno-sanitize-recover=all)
 flags=(-O1 -g -Wall -Wextra -Wpedantic -Wconversion -Wshadow -Werror "${sanitize[@]}")
 
 # compile SOURCE OBJECT FOLDER: with the header of that folder
@@ -58,7 +58,7 @@ g++ -std=c++11 "${flags[@]}" -Iinclude tests/c/header.cpp "$archive" -o "$out/he
 "$out/header"
 
 compile tests/c/wrong/execute.c "$wrong/execute.o" include
-link "$wrong/unit" -Wl,--wrap=sme_execute "$wrong/execute.o" "$out/wrapper_tests.o" "${others[@]}"
+link "$wrong/unit" -Wl,--wrap=sme_execute_word "$wrong/execute.o" "$out/wrapper_tests.o" "${others[@]}"
 WRONG=None "$wrong/unit" >"$out/told"
 for mistake in XIn16Bits XIn32Bits XBytesIn16Bits XBytesIn32Bits ZIn16Bits ZIn32Bits PIn16Bits PIn32Bits ZaIn16Bits \
     ZaIn32Bits MemoryLengthIn16Bits MemoryLengthIn32Bits MemoryOffsetIn16Bits MemoryOffsetIn32Bits EndOffsetIn16Bits \
@@ -71,5 +71,6 @@ wrong_header WithZaOnlySwitchesOn 's/settings\.za_on = on;/settings.za_on = sett
 wrong_header WithStreamingIgnoresArgument 's/settings\.streaming = on;/settings.streaming = true, (void)on;/'
 wrong_header WithMemoryAddressSetsLevel 's/settings\.memory_address = address;/& settings.level = SME_MAX_LEVEL;/'
 wrong_header NewIgnoresVectorLength 's/settings\.vector_bytes = vector_bytes;/settings.vector_bytes = 16, (void)vector_bytes;/'
-wrong_header AnotherText 's/"ZA is off"/"ZA is not on"/'
+wrong_header GivesStreamingAsZa 's/given\[SME_SETTING_ZA_ON\] = settings\.za_on;/given[SME_SETTING_ZA_ON] = settings.streaming;/'
+wrong_header AnotherText 's/"the array is off"/"the array is not on"/'
 wrong_header TextOfNoAnswer 's/"no answer of this version"/"done"/'

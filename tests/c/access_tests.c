@@ -1,5 +1,5 @@
 /*
- * Loads and stores through sme_execute, of every element size at every vector length. What must not be written stands
+ * Loads and stores through sme_execute_word, of every element size at every vector length. What must not be written stands
  * on pages that can't be: all of it with a refusal, memory with a load, ZA with a store, vector registers always.
  */
 #include "access.h"

@@ -1,5 +1,5 @@
 /*
- * sme_execute, with every answer, at every vector length: the moves, and document 01's store; access_tests.c has loads
+ * sme_execute_word, with every answer, at every vector length: the moves, and document 01's store; access_tests.c has loads
  * and stores of every size. What is expected is worked out here byte by byte.
  */
 #include "check.h"

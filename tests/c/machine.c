@@ -74,7 +74,7 @@ sme_buffers lend(const machine *own)
     return buffers;
 }
 
-static void machine_free(machine *own)
+void machine_free(machine *own)
 {
     guarded_free(&own->x);
     guarded_free(&own->z);

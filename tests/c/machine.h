@@ -32,6 +32,8 @@ void set_active(machine *own, size_t predicate, size_t element_bytes, size_t ste
 /* The buffers with their lengths; an empty memory is (NULL, 0). */
 sme_buffers lend(const machine *own);
 
+void machine_free(machine *own);
+
 /*
  * Executes, X and P on pages that can't be written, and holds answer, address and every byte to what is wanted. The
  * machine is freed.

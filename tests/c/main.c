@@ -12,11 +12,11 @@ static const struct {
     /* the answers that the function can give, a bit for each */
     unsigned can;
 } functions[FUNCTIONS] = {
-    {"sme_execute", 0xFF},
+    {"sme_execute_word", 0xFF},
     {"sme_decode", 1 << SME_DONE | 1 << SME_BAD_SETTINGS | 1 << SME_UNDECODABLE},
     {"sme_encode", 1 << SME_DONE | 1 << SME_OUT_OF_RANGE},
-    {"sme_check_settings", 1 << SME_DONE | 1 << SME_BAD_SETTINGS},
-    {"sme_lengths", 1 << SME_DONE | 1 << SME_BAD_SETTINGS},
+    {"sme_check", 1 << SME_DONE | 1 << SME_BAD_SETTINGS},
+    {"sme_measure", 1 << SME_DONE | 1 << SME_BAD_SETTINGS},
     {"sme_take_tile", 1 << SME_DONE | 1 << SME_OUT_OF_RANGE | 1 << SME_NO_FREE_TILE | 1 << SME_BAD_HELD},
     {"sme_give_up_tile", 1 << SME_DONE | 1 << SME_BAD_HELD},
 };
@@ -60,6 +60,7 @@ int main(void)
         guarded_touch_front = front == 1;
         size_tests();
         settings_tests();
+        count_tests();
         word_tests();
         execute_tests();
         access_tests();

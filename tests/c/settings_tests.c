@@ -1,4 +1,7 @@
-/* sme_check_settings and sme_lengths, for every setting near the limits. */
+/*
+ * sme_check and sme_measure through the wrappers, those of before version 0.5 among them, for every setting near the
+ * limits; and new settings that are checked.
+ */
 #include "check.h"
 #include "guarded.h"
 #include "sme_move.h"
@@ -16,6 +19,11 @@ static void check_one(uint64_t vector_bytes, uint64_t level)
     uint32_t answer = sme_check_settings(vector_bytes, level);
     CHECK_EQUAL(answer, allowed_length(vector_bytes) && level <= 3 ? SME_DONE : SME_BAD_SETTINGS);
     CHECK_EQUAL(sme_settings_check(sme_settings_new(vector_bytes, level)), answer);
+    sme_settings made = sme_settings_with_za(sme_settings_new(99, 99), true);
+    CHECK_EQUAL(sme_settings_make(vector_bytes, level, &made), answer);
+    CHECK_EQUAL(made.vector_bytes, answer == SME_DONE ? vector_bytes : 16);
+    CHECK_EQUAL(made.level, answer == SME_DONE ? level : 0);
+    CHECK(!made.streaming && !made.za_on && made.memory_address == 0);
     seen[CHECK_SETTINGS][answer]++;
 }
 
@@ -27,6 +35,9 @@ static void measure_one(uint64_t vector_bytes)
     uint32_t answer = sme_settings_lengths(sme_settings_new(vector_bytes, 0), (uint64_t *)(void *)lengths.bytes);
     CHECK_EQUAL(answer, allowed_length(vector_bytes) ? SME_DONE : SME_BAD_SETTINGS);
     CHECK(guarded_check(&lengths));
+    uint64_t old[4] = {5, 5, 5, 5};
+    CHECK_EQUAL(sme_lengths(vector_bytes, old), answer);
+    CHECK_EQUAL(old[3], answer == SME_DONE ? SME_ZA_BYTES(vector_bytes) : 5);
     if (answer == SME_DONE) {
         uint64_t four[4];
         memcpy(four, lengths.bytes, sizeof four);
@@ -37,7 +48,7 @@ static void measure_one(uint64_t vector_bytes)
     } else {
         CHECK(memcmp(before, lengths.bytes, sizeof before) == 0);
     }
-    seen[LENGTHS][answer]++;
+    seen[MEASURE][answer]++;
     guarded_free(&lengths);
 }
 

@@ -1,6 +1,6 @@
 /*
- * What the header itself does, without the archive: settings as a record, each item changed from every state of the
- * others, and the words of each answer.
+ * What the header itself does: settings as a record, each item changed from every state of the others, and as an array;
+ * its version beside the archive's; and the words of each answer.
  */
 #include "check.h"
 #include "sme_move.h"
@@ -61,6 +61,28 @@ static void with_tests(void)
     }
 }
 
+/* Each setting in its place. */
+static void give_tests(void)
+{
+    for (int switches = 0; switches < 4; switches++) {
+        const sme_settings settings = {.vector_bytes = 64, .level = 2, .streaming = switches % 2 == 1,
+                                       .za_on = switches / 2 == 1, .memory_address = UINT64_C(0xFEDCBA9876543210)};
+        const uint64_t wanted[] = {64, 2, (uint64_t)switches % 2, (uint64_t)switches / 2, UINT64_C(0xFEDCBA9876543210)};
+        uint64_t given[SME_SETTING_COUNT];
+        CHECK_EQUAL(sizeof given, sizeof wanted);
+        sme_settings_give(settings, given);
+        CHECK(memcmp(given, wanted, sizeof wanted) == 0);
+    }
+}
+
+/* The archive's version is the header's, which 65536 and 1 tell apart from an older and a newer one. */
+static void version_tests(void)
+{
+    CHECK_EQUAL(SME_MOVE_VERSION, 65536 * SME_MOVE_VERSION_MAJOR + SME_MOVE_VERSION_MINOR);
+    CHECK_EQUAL(sme_version(), SME_MOVE_VERSION);
+    CHECK(sme_version_fits());
+}
+
 /* By number, as hosts get it. */
 static const char *const texts[ANSWERS] = {
     [0] = "done",
@@ -68,7 +90,7 @@ static const char *const texts[ANSWERS] = {
     [2] = "a buffer has the wrong length, or memory ends above 2^64",
     [3] = "the word is no instruction of this level",
     [4] = "streaming mode is off",
-    [5] = "ZA is off",
+    [5] = "the array is off",
     [6] = "the stack pointer is no multiple of 16",
     [7] = "an address is not in memory",
     [8] = "no word encodes this operation, or no element has so many bytes",
@@ -104,5 +126,7 @@ void wrapper_tests(void)
 {
     new_tests();
     with_tests();
+    give_tests();
+    version_tests();
     text_tests();
 }

@@ -12,13 +12,15 @@ use Rattle.general.specs.Determined.{IsOneOf}
 use Rattle.general.proofs.BoolLaws.{and-parts, by-test}
 use Rattle.general.proofs.DeterminedLaws.{equal-determines, one-of-test, other-number}
 use Rattle.settings.specs.Answer.{done, badSettings, checkedNumber}
-use Rattle.settings.specs.Settings.{isVectorLength, validSettings, checkOf, Checks, settingsOf, makeOf, Makes, lengthsOf, lengthNumbers, Measures}
-use Rattle.settings.specs.Claims.{five, FiveLengths, LengthsGoByLength, Plain, ItemsChange, ChecksDetermine, MakesDetermine, MeasuresDetermine, SettingsDetermine}
+use Rattle.settings.specs.Settings.{isVectorLength, validSettings, checkOf, checkNumber, Checks, settingsOf, makeOf, Makes, lengthsOf, lengthNumbers, Measures}
+use Rattle.settings.specs.Lent.{isOn}
+use Rattle.settings.specs.Claims.{five, FiveLengths, LengthsGoByLength, Items, Plain, ItemsChange, LentSettings, ChecksDetermine, MakesDetermine, MeasuresDetermine, SettingsDetermine}
 use Rattle.settings.specs.declared.Settings.{Settings}
 use Rattle.settings.specs.declared.Checked.{Checked}
 use Rattle.settings.specs.declared.Checked.the-variants.{Valid, BadSettings}
 use Rattle.settings.specs.declared.Made.{Made}
 use Rattle.settings.proofs.SettingsLaws.{five-lengths, checks-valid, checks-bad}
+use Rattle.settings.proofs.LentLaws.{settings-few, settings-many}
 
 pub is-five-lengths : FiveLengths
 unfolding isVectorLength
@@ -55,13 +57,34 @@ checks-determine s = record {
 pub lengths-go-by-length : LengthsGoByLength
 lengths-go-by-length s = record { stride = refl; lengths = refl }
 
+-- any settings, item by item
+items : {s : Settings} → Items s (s .«vector_bytes») (s .level) (s .streaming) (s .za) (s .«memory_address»)
+items = record { vectorBytes = refl; level = refl; streaming = refl; za = refl; memoryAddress = refl }
+
 pub items-change : ItemsChange
 items-change s =
     record {
-      streaming = λ on. record { vectorBytes = refl; level = refl; streaming = refl; za = refl; memoryAddress = refl };
-      za = λ on. record { vectorBytes = refl; level = refl; streaming = refl; za = refl; memoryAddress = refl };
-      memoryAddress = λ a. record { vectorBytes = refl; level = refl; streaming = refl; za = refl; memoryAddress = refl };
+      streaming = λ on. items;
+      za = λ on. items;
+      memoryAddress = λ a. items;
     }
+
+-- a switch as a number and back
+switch : (b : Bool) → isOn (cond b 1 0) ≡ b
+switch true = refl
+switch false = refl
+
+pub lent-settings : LentSettings
+unfolding isVectorLength
+lent-settings = record {
+  all = λ s. rw (switch (s .streaming), switch (s .za));
+  two = λ B l. items;
+  three = λ B l a. items;
+  four = λ B l a b. items;
+  five = λ B l a b c. items;
+  few = λ l h. ap checkNumber (sym (settings-few l h));
+  many = λ l h. ap checkNumber (sym (settings-many l (omega (arith, h)) h));
+}
 
 -- settings with a vector length, a level and nothing else
 plain : (s : Settings) (B l : ℕ) → s ≡ settingsOf B l → Plain s B l

@@ -1,13 +1,15 @@
 -- What the promises of specs/Settings.antt leave open: nothing. Each statement is from the promise alone, whichever function meets it;
 -- proofs/Claims.antt proves each. Renders 01 §2, §6 and §9.
 -- Assumes nothing.
-use Prim.Native.Nat.{ℕ, _*_, _/_, _≤_}
+use Prim.Native.Nat.{ℕ, _*_, _/_, _<_, _≤_}
 use mathlib.Core.Path.{_≡_}
-use mathlib.Core.Bool.{Bool, true, false}
+use mathlib.Core.Bool.{Bool, true, false, cond}
 use mathlib.Core.List.{List, [], _∷_}
+use lib.ListN.{length}
 use Rattle.general.specs.Determined.{Determined, Met, IsOneOf}
 use Rattle.settings.specs.Answer.{checkedNumber}
-use Rattle.settings.specs.Settings.{isVectorLength, Checks, Makes, withStreaming, withZa, withMemoryAddress, strideOf, lengthsOf, lengthNumbers, Measures}
+use Rattle.settings.specs.Settings.{isVectorLength, checkNumber, Checks, Makes, withStreaming, withZa, withMemoryAddress, strideOf, lengthsOf, lengthNumbers, Measures}
+use Rattle.settings.specs.Lent.{isOn, settingsIn}
 use Rattle.settings.specs.declared.Settings.{Settings}
 use Rattle.settings.specs.declared.Checked.{Checked}
 use Rattle.settings.specs.declared.Made.{Made}
@@ -48,6 +50,20 @@ pub record WithsChange (s : Settings) : Type 0 where
 
 abbrev pub ItemsChange : Type 0
 ItemsChange = (s : Settings) → WithsChange s
+
+-- settings as numbers
+abbrev pub numbersOf : Settings → List ℕ
+numbersOf s = s .«vector_bytes» ∷ s .level ∷ cond (s .streaming) 1 0 ∷ cond (s .za) 1 0 ∷ s .«memory_address» ∷ []
+
+-- settings that a host gives as numbers: any can be given; what is missing is as in new settings; with too few or too many the answer is 1
+pub record LentSettings : Type 0 where
+  pub all : (s : Settings) → settingsIn (numbersOf s) ≡ s
+  pub two : (B l : ℕ) → Plain (settingsIn (B ∷ l ∷ [])) B l
+  pub three : (B l a : ℕ) → Items (settingsIn (B ∷ l ∷ a ∷ [])) B l (isOn a) false 0
+  pub four : (B l a b : ℕ) → Items (settingsIn (B ∷ l ∷ a ∷ b ∷ [])) B l (isOn a) (isOn b) 0
+  pub five : (B l a b c : ℕ) → Items (settingsIn (B ∷ l ∷ a ∷ b ∷ c ∷ [])) B l (isOn a) (isOn b) c
+  pub few : (l : List ℕ) → length l < 2 → checkNumber (settingsIn l) ≡ 1
+  pub many : (l : List ℕ) → 5 < length l → checkNumber (settingsIn l) ≡ 1
 
 -- checking: one answer, 0 exactly if the vector length is one of the five and the level at most 3, else 1
 pub record ChecksDetermine (s : Settings) : Type 0 where

@@ -7,6 +7,7 @@ use mathlib.Core.List.{List, [], _∷_, _++_, map}
 use lib.ListN.{replicate}
 use Rattle.settings.specs.Answer.{answerWith, firstValue, done, badSettings, badLengths, undecodable, streamingOff, zaOff, stackMisaligned, outsideMemory, outOfRange, noFreeTile, badHeld, checkedNumber}
 use Rattle.settings.specs.Settings.{minVectorBytes, maxVectorBytes, maxLevel, isVectorLength, validSettings, checkOf, checkNumber, settingsOf, makeOf, withStreaming, withZa, withMemoryAddress, strideOf, lengthsOf, lengthNumbers, Measures}
+use Rattle.settings.specs.Lent.{settingsIn}
 use Rattle.settings.specs.declared.Settings.{Settings}
 use Rattle.settings.specs.declared.Checked.{Checked}
 use Rattle.settings.specs.declared.Checked.the-variants.{Valid, BadSettings}
@@ -59,6 +60,10 @@ pub record SettingsExamplesHold : Type 0 where
   pub zaSet : withZa (having 37 9 false false 4097) true ≡ having 37 9 false true 4097
   pub address : withMemoryAddress (having 37 9 true false 4097) 8190 ≡ having 37 9 true false 8190
   pub addressBack : withMemoryAddress (having 37 9 false true 4097) 0 ≡ having 37 9 false true 0
+  -- given as numbers: all, any but 0 being on; missing ones; too few and too many
+  pub given : map settingsIn ((37 ∷ 9 ∷ 0 ∷ 1 ∷ 4097 ∷ []) ∷ (37 ∷ 9 ∷ 2 ∷ 0 ∷ 0x1_0000_0001 ∷ []) ∷ []) ≡ having 37 9 false true 4097 ∷ having 37 9 true false 0x1_0000_0001 ∷ []
+  pub missing : map settingsIn ((64 ∷ 3 ∷ []) ∷ (64 ∷ 3 ∷ 1 ∷ []) ∷ (64 ∷ 3 ∷ 1 ∷ 1 ∷ []) ∷ []) ≡ having 64 3 false false 0 ∷ having 64 3 true false 0 ∷ having 64 3 true true 0 ∷ []
+  pub notGiven : map (λ l. checkNumber (settingsIn l)) ([] ∷ (64 ∷ []) ∷ (64 ∷ 3 ∷ []) ∷ (64 ∷ 3 ∷ 1 ∷ 1 ∷ 0 ∷ 0 ∷ []) ∷ []) ≡ 1 ∷ 1 ∷ 0 ∷ 1 ∷ []
   -- X in numbers, Z, P and ZA in bytes, at each vector length
   pub measures : map lengthsAt (16 ∷ 32 ∷ 64 ∷ 128 ∷ 256 ∷ []) ≡
       (32 ∷ 512 ∷ 32 ∷ 256 ∷ []) ∷ (32 ∷ 1024 ∷ 64 ∷ 1024 ∷ []) ∷ (32 ∷ 2048 ∷ 128 ∷ 4096 ∷ []) ∷ (32 ∷ 4096 ∷ 256 ∷ 16384 ∷ []) ∷ (32 ∷ 8192 ∷ 512 ∷ 65536 ∷ []) ∷ []

@@ -1,16 +1,17 @@
 -- Each theorem of specs/Claims.antt.
 -- Assumes nothing.
-use Prim.Native.Nat.{ℕ}
+use Prim.Native.Nat.{ℕ, zero, suc, _<_, _≤_}
 use mathlib.Core.Path.{_≡_, refl, sym, ap, _∙_, subst}
 use mathlib.Core.Bool.{Bool, cond}
 use mathlib.Core.List.{List, [], _∷_}
 use mathlib.Core.Logic.{inl, inr}
-use lib.ListN.{getD}
+use native.Mathlib.Nat.{not-suc-le-zero, le-of-suc-le-suc}
+use lib.ListN.{length, getD}
 use borrow.Author.Tests.{eq-eqb, ne-eqb}
 use Rattle.general.specs.Determined.{IsOneOf}
 use Rattle.general.proofs.DeterminedLaws.{equal-determines, one-of-test, other-number}
 use Rattle.settings.specs.Answer.{Answer, firstValue, done}
-use Rattle.settings.specs.Settings.{isVectorLength, settingsOf, lengthsOf, lengthNumbers}
+use Rattle.settings.specs.Settings.{isVectorLength, lengthsOf, lengthNumbers}
 use Rattle.settings.specs.declared.Settings.{Settings}
 use Rattle.settings.proofs.Claims.{passed}
 use Rattle.encoding.specs.Codec.{decodeAnswer, encodeAnswer}
@@ -23,8 +24,8 @@ use Rattle.semantics.specs.declared.answer.Refusal.the-variants.{BadSettings, B
 use Rattle.semantics.specs.declared.answer.Executed.{Executed}
 use Rattle.semantics.specs.declared.answer.Executed.the-variants.{Done, Refused}
 use Rattle.semantics.proofs.Claims.{definition-executes, executing-determines}
-use Rattle.sme_move.specs.Export.{Exports, fieldsAfter, DecodeExports, EncodeExports, LengthExports}
-use Rattle.sme_move.specs.Claims.{ExportsDetermine, DecodeExportsDetermine, EncodeExportsDetermine, LengthExportsDetermine, ExportsAllDetermine}
+use Rattle.sme_move.specs.Export.{filled, resultNumbers, Exports, fieldsAfter, DecodeExports, EncodeExports, LengthExports}
+use Rattle.sme_move.specs.Claims.{ExportsDetermine, FilledIs, DecodeExportsDetermine, EncodeExportsDetermine, LengthExportsDetermine, ExportsAllDetermine}
 
 -- ---- execution
 
@@ -54,22 +55,43 @@ executed-address : (e : Executed) → (executedNumber e ≡ 7 → ⊥) → execu
 executed-address Done n = refl
 executed-address (Refused r) n = refusal-address r n
 
-exports-determine : (s : Settings) (w : ℕ) (t : State) → ExportsDetermine s w t
-exports-determine s w t = record {
-  met = ((executedNumber a, executedAddress a, executeOf s w t .state), record { answer = a; executes = definition-executes s w t; number = refl; address = refl });
-  determined = equal-determines (λ (o : ℕ × ℕ × State). Exports s w t (o .0) (o .1) (o .2)) (executedNumber a, executedAddress a, executeOf s w t .state)
-      (λ o p i. (number p i, (p .address ∙ ap executedAddress (p .executes .answer)) i, p .executes .state i));
-  numbers = λ r b t′ p. subst (IsOneOf (0 ∷ 1 ∷ 2 ∷ 3 ∷ 4 ∷ 5 ∷ 6 ∷ 7 ∷ [])) (sym (p .number)) (executed-numbers (p .answer));
-  table = λ r b t′ p. (p .number ∙ ap (λ (a : Answer). a .number) (p .executes .numbers), p .address ∙ ap firstValue (p .executes .numbers));
-  refused = λ r b t′ p n. executing-determines s w t .refused (p .answer) t′ (p .executes) (λ e. n (p .number ∙ e));
-  address = λ r b t′ p n. p .address ∙ executed-address (p .answer) (λ e. n (p .number ∙ e));
+exports-determine : (s : Settings) (w : ℕ) (t : State) (rs : List ℕ) → ExportsDetermine s w t rs
+exports-determine s w t rs = record {
+  met = ((executedNumber a, filled (resultNumbers a) rs, executeOf s w t .state), record { answer = a; executes = definition-executes s w t; number = refl; results = refl });
+  determined = equal-determines (λ (o : ℕ × List ℕ × State). Exports s w t rs (o .0) (o .1) (o .2)) (executedNumber a, filled (resultNumbers a) rs, executeOf s w t .state)
+      (λ o p i. (number p i, (p .results ∙ ap (λ (e : Executed). filled (resultNumbers e) rs) (p .executes .answer)) i, p .executes .state i));
+  numbers = λ r rs′ t′ p. subst (IsOneOf (0 ∷ 1 ∷ 2 ∷ 3 ∷ 4 ∷ 5 ∷ 6 ∷ 7 ∷ [])) (sym (p .number)) (executed-numbers (p .answer));
+  table = λ r rs′ t′ p.
+      (p .number ∙ ap (λ (a : Answer). a .number) (p .executes .numbers), p .results ∙ ap (λ (a : Answer). filled (firstValue a ∷ []) rs) (p .executes .numbers));
+  refused = λ r rs′ t′ p n. executing-determines s w t .refused (p .answer) t′ (p .executes) (λ e. n (p .number ∙ e));
+  address = λ r rs′ t′ p n. p .results ∙ ap (λ (a : ℕ). filled (a ∷ []) rs) (executed-address (p .answer) (λ e. n (p .number ∙ e)));
 }
   where
     a : Executed
     a = executeOf s w t .answer
 
-    number : {r b : ℕ} {t′ : State} → Exports s w t r b t′ → r ≡ executedNumber (executeOf s w t .answer)
+    number : {r : ℕ} {rs′ : List ℕ} {t′ : State} → Exports s w t rs r rs′ t′ → r ≡ executedNumber (executeOf s w t .answer)
     number p = p .number ∙ ap executedNumber (p .executes .answer)
+
+filled-long : (ns old : List ℕ) → length (filled ns old) ≡ length old
+filled-long [] old = refl
+filled-long (n ∷ ns) [] = refl
+filled-long (n ∷ ns) (o ∷ old) = ap suc (filled-long ns old)
+
+filled-written : (ns old : List ℕ) (i : ℕ) → i < length ns → i < length old → getD (filled ns old) i 0 ≡ getD ns i 0
+filled-written [] old i h g = absurd (not-suc-le-zero h)
+filled-written (n ∷ ns) [] i h g = absurd (not-suc-le-zero g)
+filled-written (n ∷ ns) (o ∷ old) zero h g = refl
+filled-written (n ∷ ns) (o ∷ old) (suc i) h g = filled-written ns old i (le-of-suc-le-suc h) (le-of-suc-le-suc g)
+
+filled-behind : (ns old : List ℕ) (i : ℕ) → length ns ≤ i → getD (filled ns old) i 0 ≡ getD old i 0
+filled-behind [] old i h = refl
+filled-behind (n ∷ ns) [] i h = refl
+filled-behind (n ∷ ns) (o ∷ old) zero h = absurd (not-suc-le-zero h)
+filled-behind (n ∷ ns) (o ∷ old) (suc i) h = filled-behind ns old i (le-of-suc-le-suc h)
+
+filled-is : (ns old : List ℕ) → FilledIs ns old
+filled-is ns old = record { long = filled-long ns old; written = filled-written ns old; behind = filled-behind ns old }
 
 -- ---- words
 
@@ -92,17 +114,21 @@ encode-exports-determine f = record {
 
 -- ---- lengths
 
-length-exports-determine : (B : ℕ) (l : List ℕ) → LengthExportsDetermine B l
-length-exports-determine B l = record {
-  determined = equal-determines (λ (o : ℕ × List ℕ). LengthExports B l (o .0) (o .1)) _ (λ o p i. (p .number i, p .lengths i));
-  numbers = λ r l′ p. one-of-test (isVectorLength B) (0 ∷ 1 ∷ []) _ _ _ (inl refl) (inr (inl refl)) (p .number);
-  done = λ r l′ p e. p .lengths ∙ ap (λ (b : Bool). cond b (lengthNumbers (lengthsOf (settingsOf B 0))) l) (passed (isVectorLength B) (sym (p .number) ∙ e));
-  refused = λ r l′ p. other-number (isVectorLength B) _ _ _ _ _ _ (p .number) (p .lengths);
+length-exports-determine : (s : Settings) (l : List ℕ) → LengthExportsDetermine s l
+length-exports-determine s l = record {
+  determined = equal-determines (λ (o : ℕ × List ℕ). LengthExports s l (o .0) (o .1)) _ (λ o p i. (p .number i, p .lengths i));
+  numbers = λ r l′ p. one-of-test allowed (0 ∷ 1 ∷ []) _ _ _ (inl refl) (inr (inl refl)) (p .number);
+  done = λ r l′ p e. p .lengths ∙ ap (λ (b : Bool). cond b (lengthNumbers (lengthsOf s)) l) (passed allowed (sym (p .number) ∙ e));
+  refused = λ r l′ p. other-number allowed _ _ _ _ _ _ (p .number) (p .lengths);
 }
+  where
+    allowed : Bool
+    allowed = isVectorLength (s .«vector_bytes»)
 
 pub exports-all-determine : ExportsAllDetermine
 exports-all-determine = record {
   executes = exports-determine;
+  results = filled-is;
   decodes = decode-exports-determine;
   encodes = encode-exports-determine;
   lengths = length-exports-determine;

@@ -10,8 +10,9 @@ use Rattle.sme_move.specs.Examples.{ExportExamplesHold}
 pub export-examples-hold : ExportExamplesHold
 unfolding isVectorLength table rowOfWord rowOfNumbers decodeAnswer encodeAnswer
 export-examples-hold = record {
-  streaming = refl;
-  za = refl;
+  versionIs = refl;
+  results = refl;
+  cut = refl;
   decodes = λ r f′ p i. p .number i ∷ p .fields i;
   undecodable = λ r f′ p i. p .number i ∷ p .fields i;
   badLevel = λ r f′ p i. p .number i ∷ p .fields i;
@@ -19,4 +20,5 @@ export-examples-hold = record {
   outOfRange = λ r w p i. p .number i ∷ p .word i ∷ [];
   lengths = λ r ls′ p i. p .number i ∷ p .lengths i;
   noLengths = λ r ls′ p i. p .number i ∷ p .lengths i;
+  noLevel = λ r ls′ p i. p .number i ∷ p .lengths i;
 }

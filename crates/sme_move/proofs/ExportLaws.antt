@@ -1,15 +1,18 @@
 -- Laws of specs/Export.antt: what the inner functions promise, in the numbers that hosts get.
 -- Assumes nothing.
-use Prim.Native.Nat.{ℕ}
-use mathlib.Core.Path.{_≡_, refl, sym, _∙_, ap}
+use Prim.Native.Nat.{ℕ, _<_, _≤_}
+use mathlib.Core.Path.{_≡_, refl, sym, _∙_, ap, subst}
 use mathlib.Core.Bool.{Bool, true, false, cond}
 use mathlib.Core.List.{List, [], _∷_}
 use mathlib.Core.Logic.{⊎-elim}
+use native.Mathlib.Nat.{not-suc-le-zero}
 use native.Mathlib.Omega.{arith}
+use lib.ListN.{length, set}
 use types.Run.{OneOf}
 use denote.Enum.Declared.{tagOf}
 use Rattle.settings.specs.Answer.{done, badSettings, checkedNumber, Answer}
 use Rattle.settings.specs.Settings.{isVectorLength, Measures}
+use Rattle.settings.specs.declared.Settings.{Settings}
 use Rattle.settings.specs.declared.Checked.{Checked}
 use Rattle.settings.specs.declared.Checked.the-variants.{Valid, BadSettings}
 use Rattle.encoding.specs.Answer.{decodedAnswer}
@@ -19,7 +22,11 @@ use Rattle.encoding.specs.declared.operation.Operation.{Operation}
 use Rattle.encoding.specs.declared.operation.Decoded.{Decoded}
 use Rattle.encoding.specs.declared.operation.Decoded.the-variants.{Done, BadLevel, Undecodable}
 use Rattle.encoding.proofs.operation.Decoded.{the-type}
-use Rattle.sme_move.specs.Export.{fieldsAfter, DecodeExports, LengthExports}
+use Rattle.semantics.specs.Answer.{executedNumber}
+use Rattle.semantics.specs.State.{State}
+use Rattle.semantics.specs.Promise.{Executes}
+use Rattle.semantics.specs.declared.answer.Executed.{Executed}
+use Rattle.sme_move.specs.Export.{filled, resultNumbers, Exports, fieldsAfter, DecodeExports, LengthExports}
 
 -- ---- decoding
 
@@ -46,11 +53,28 @@ module _ (w level : ℕ) (f : List ℕ) (d : Decoded) (h : Decodes w level d) wh
   decode-gives r o g e =
       exports r (flatOf o) (e ∙ ap (λ (d : Decoded). decodedAnswer d .number) (sym g)) (ap (λ (d : Decoded). fieldsAfter (decodedAnswer d) f) (sym g))
 
+-- ---- results
+
+-- the one result of an execution, written or not by whether the array has a place
+pub fills-first : (old : List ℕ) {a n : ℕ} → a ≡ n → 0 < length old → set old 0 a ≡ filled (n ∷ []) old
+fills-first [] e h = absurd (not-suc-le-zero h)
+fills-first (o ∷ old) e h = ap (λ (a : ℕ). a ∷ old) e
+
+pub fills-none : (n : ℕ) (old : List ℕ) → length old ≤ 0 → old ≡ filled (n ∷ []) old
+fills-none n [] h = refl
+fills-none n (o ∷ old) h = absurd (not-suc-le-zero h)
+
+-- what executing promises of settings that were read, with number and results
+pub execute-exports : {s s′ : Settings} {w : ℕ} {t t′ : State} {e : Executed} {rs rs′ : List ℕ} {r : ℕ} → s ≡ s′ → Executes s w t e t′ → r ≡ executedNumber e → rs′ ≡ filled (resultNumbers e) rs → Exports s′ w t rs r rs′ t′
+execute-exports {w} {t} {t′} {e} {rs} {rs′} {r} q h n f = subst (λ (s : Settings). Exports s w t rs r rs′ t′) q (record { answer = e; executes = h; number = n; results = f })
+
 -- ---- lengths
 
 number-of : (b : Bool) → checkedNumber (cond b Valid BadSettings) ≡ cond b done badSettings
 number-of true = refl
 number-of false = refl
 
-pub lengths-export : (B : ℕ) (l : List ℕ) (c : Checked) (l′ : List ℕ) → Measures B l c l′ → LengthExports B l (checkedNumber c) l′
-lengths-export B l c l′ h = record { number = ap checkedNumber (h .answer) ∙ number-of (isVectorLength B); lengths = h .lengths }
+pub lengths-export : {s s′ : Settings} {l l′ : List ℕ} {c : Checked} {r : ℕ} → s ≡ s′ → Measures (s .«vector_bytes») l c l′ → r ≡ checkedNumber c → LengthExports s′ l r l′
+lengths-export {s} {l} {l′} {r} q h n =
+    subst (λ (s : Settings). LengthExports s l r l′) q
+    (record { number = n ∙ ap checkedNumber (h .answer) ∙ number-of (isVectorLength (s .«vector_bytes»)); lengths = h .lengths })

@@ -1,26 +1,33 @@
 -- What the promises of specs/Export.antt leave open: nothing. Each statement is from the promise alone, whichever function meets it;
 -- proofs/Claims.antt proves each. Renders 01 §6 and §9.
 -- Assumes nothing.
-use Prim.Native.Nat.{ℕ, _*_, _/_}
+use Prim.Native.Nat.{ℕ, _*_, _/_, _<_, _≤_}
 use mathlib.Core.Path.{_≡_}
 use mathlib.Core.List.{List, [], _∷_}
+use lib.ListN.{length, getD}
 use Rattle.general.specs.Determined.{Determined, Met, IsOneOf}
 use Rattle.settings.specs.Answer.{firstValue}
 use Rattle.settings.specs.declared.Settings.{Settings}
 use Rattle.encoding.specs.Codec.{decodeAnswer, encodeAnswer}
 use Rattle.semantics.specs.State.{State, publicOf}
 use Rattle.semantics.specs.Lines.{answerInNumbers}
-use Rattle.sme_move.specs.Export.{Exports, DecodeExports, EncodeExports, LengthExports}
+use Rattle.sme_move.specs.Export.{filled, Exports, DecodeExports, EncodeExports, LengthExports}
 
--- execution: one number, one address, one content of every buffer; number and address are those of the table of answers; another number than 0
--- leaves every buffer as it was, and another than 7 gives address 0
-pub record ExportsDetermine (s : Settings) (w : ℕ) (t : State) : Type 0 where
-  pub met : Met (λ (o : ℕ × ℕ × State). Exports s w t (o .0) (o .1) (o .2))
-  pub determined : Determined (λ (o : ℕ × ℕ × State). Exports s w t (o .0) (o .1) (o .2))
-  pub numbers : (r a : ℕ) (t′ : State) → Exports s w t r a t′ → IsOneOf (0 ∷ 1 ∷ 2 ∷ 3 ∷ 4 ∷ 5 ∷ 6 ∷ 7 ∷ []) r
-  pub table : (r a : ℕ) (t′ : State) → Exports s w t r a t′ → (r ≡ answerInNumbers s w (publicOf t) .number) × (a ≡ firstValue (answerInNumbers s w (publicOf t)))
-  pub refused : (r a : ℕ) (t′ : State) → Exports s w t r a t′ → (r ≡ 0 → ⊥) → t′ ≡ t
-  pub address : (r a : ℕ) (t′ : State) → Exports s w t r a t′ → (r ≡ 7 → ⊥) → a ≡ 0
+-- execution: one number, one array of results, one content of every buffer; number and address are those of the table of answers; another number
+-- than 0 leaves every buffer as it was, and another than 7 gives address 0
+pub record ExportsDetermine (s : Settings) (w : ℕ) (t : State) (rs : List ℕ) : Type 0 where
+  pub met : Met (λ (o : ℕ × List ℕ × State). Exports s w t rs (o .0) (o .1) (o .2))
+  pub determined : Determined (λ (o : ℕ × List ℕ × State). Exports s w t rs (o .0) (o .1) (o .2))
+  pub numbers : (r : ℕ) (rs′ : List ℕ) (t′ : State) → Exports s w t rs r rs′ t′ → IsOneOf (0 ∷ 1 ∷ 2 ∷ 3 ∷ 4 ∷ 5 ∷ 6 ∷ 7 ∷ []) r
+  pub table : (r : ℕ) (rs′ : List ℕ) (t′ : State) → Exports s w t rs r rs′ t′ → (r ≡ answerInNumbers s w (publicOf t) .number) × (rs′ ≡ filled (firstValue (answerInNumbers s w (publicOf t)) ∷ []) rs)
+  pub refused : (r : ℕ) (rs′ : List ℕ) (t′ : State) → Exports s w t rs r rs′ t′ → (r ≡ 0 → ⊥) → t′ ≡ t
+  pub address : (r : ℕ) (rs′ : List ℕ) (t′ : State) → Exports s w t rs r rs′ t′ → (r ≡ 7 → ⊥) → rs′ ≡ filled (0 ∷ []) rs
+
+-- an array is as long as it was once numbers are written to it; it has them in their places, and behind them what it had
+pub record FilledIs (ns old : List ℕ) : Type 0 where
+  pub long : length (filled ns old) ≡ length old
+  pub written : (i : ℕ) → i < length ns → i < length old → getD (filled ns old) i 0 ≡ getD ns i 0
+  pub behind : (i : ℕ) → length ns ≤ i → getD (filled ns old) i 0 ≡ getD old i 0
 
 -- decoding: number and fields are those of the definition with 0, and another number leaves the fields as they were
 pub record DecodeExportsDetermine (w level : ℕ) (f : List ℕ) : Type 0 where
@@ -38,14 +45,15 @@ pub record EncodeExportsDetermine (f : List ℕ) : Type 0 where
   pub refused : (r w : ℕ) → EncodeExports f r w → (r ≡ 0 → ⊥) → w ≡ 0
 
 -- lengths: with 0 what the vector length fixes, and another number leaves them as they were
-pub record LengthExportsDetermine (B : ℕ) (l : List ℕ) : Type 0 where
-  pub determined : Determined (λ (o : ℕ × List ℕ). LengthExports B l (o .0) (o .1))
-  pub numbers : (r : ℕ) (l′ : List ℕ) → LengthExports B l r l′ → IsOneOf (0 ∷ 1 ∷ []) r
-  pub done : (r : ℕ) (l′ : List ℕ) → LengthExports B l r l′ → r ≡ 0 → l′ ≡ 32 ∷ (32 * B) ∷ (16 * (B / 8)) ∷ (B * B) ∷ []
-  pub refused : (r : ℕ) (l′ : List ℕ) → LengthExports B l r l′ → (r ≡ 0 → ⊥) → l′ ≡ l
+pub record LengthExportsDetermine (s : Settings) (l : List ℕ) : Type 0 where
+  pub determined : Determined (λ (o : ℕ × List ℕ). LengthExports s l (o .0) (o .1))
+  pub numbers : (r : ℕ) (l′ : List ℕ) → LengthExports s l r l′ → IsOneOf (0 ∷ 1 ∷ []) r
+  pub done : (r : ℕ) (l′ : List ℕ) → LengthExports s l r l′ → r ≡ 0 → l′ ≡ 32 ∷ (32 * s .«vector_bytes») ∷ (16 * (s .«vector_bytes» / 8)) ∷ (s .«vector_bytes» * s .«vector_bytes») ∷ []
+  pub refused : (r : ℕ) (l′ : List ℕ) → LengthExports s l r l′ → (r ≡ 0 → ⊥) → l′ ≡ l
 
 pub record ExportsAllDetermine : Type 0 where
-  pub executes : (s : Settings) (w : ℕ) (t : State) → ExportsDetermine s w t
+  pub executes : (s : Settings) (w : ℕ) (t : State) (rs : List ℕ) → ExportsDetermine s w t rs
+  pub results : (ns old : List ℕ) → FilledIs ns old
   pub decodes : (w level : ℕ) (f : List ℕ) → DecodeExportsDetermine w level f
   pub encodes : (f : List ℕ) → EncodeExportsDetermine f
-  pub lengths : (B : ℕ) (l : List ℕ) → LengthExportsDetermine B l
+  pub lengths : (s : Settings) (l : List ℕ) → LengthExportsDetermine s l

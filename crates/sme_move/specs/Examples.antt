@@ -2,11 +2,10 @@
 -- Assumes nothing.
 use Prim.Native.Nat.{ℕ}
 use mathlib.Core.Path.{_≡_}
-use mathlib.Core.Bool.{true, false}
-use mathlib.Core.List.{List, [], _∷_}
+use mathlib.Core.List.{List, [], _∷_, map}
 use lib.ListN.{replicate}
-use Rattle.settings.specs.Examples.{having}
-use Rattle.sme_move.specs.Export.{settingsWith, DecodeExports, EncodeExports, LengthExports}
+use Rattle.settings.specs.Lent.{settingsIn}
+use Rattle.sme_move.specs.Export.{version, filled, DecodeExports, EncodeExports, LengthExports}
 
 -- asked to decode with these fields: the number, the fields afterwards
 abbrev pub GivesFields : ℕ → ℕ → List ℕ → List ℕ → Type 0
@@ -16,14 +15,15 @@ GivesFields w level f l = (r : ℕ) (f′ : List ℕ) → DecodeExports w level 
 abbrev pub GivesWord : List ℕ → List ℕ → Type 0
 GivesWord f l = (r w : ℕ) → EncodeExports f r w → r ∷ w ∷ [] ≡ l
 
--- asked for the lengths with this list: the number, the list afterwards
-abbrev pub GivesLengths : ℕ → List ℕ → List ℕ → Type 0
-GivesLengths B ls l = (r : ℕ) (ls′ : List ℕ) → LengthExports B ls r ls′ → r ∷ ls′ ≡ l
+-- asked for the lengths with these settings and this list: the number, the list afterwards
+abbrev pub GivesLengths : List ℕ → List ℕ → List ℕ → Type 0
+GivesLengths given ls l = (r : ℕ) (ls′ : List ℕ) → LengthExports (settingsIn given) ls r ls′ → r ∷ ls′ ≡ l
 
 pub record ExportExamplesHold : Type 0 where
-  -- the settings are the numbers handed in
-  pub streaming : settingsWith 37 9 true false 4097 ≡ having 37 9 true false 4097
-  pub za : settingsWith 37 9 false true 4097 ≡ having 37 9 false true 4097
+  pub versionIs : version ≡ 5
+  -- results in an array without a place, with one, with more; of two results the first where there is one place
+  pub results : map (filled (7 ∷ [])) ([] ∷ (9 ∷ []) ∷ (9 ∷ 8 ∷ 6 ∷ []) ∷ []) ≡ [] ∷ (7 ∷ []) ∷ (7 ∷ 8 ∷ 6 ∷ []) ∷ []
+  pub cut : filled (7 ∷ 5 ∷ []) (9 ∷ []) ≡ 7 ∷ []
   -- at its level, at the one below, above 3
   pub decodes : GivesFields 0xC080ACA9 1 (replicate 11 99) (0 ∷ 1 ∷ 4 ∷ 1 ∷ 2 ∷ 1 ∷ 13 ∷ 3 ∷ 5 ∷ 0 ∷ 0 ∷ 1 ∷ [])
   pub undecodable : GivesFields 0xC080ACA9 0 (replicate 11 99) (3 ∷ replicate 11 99)
@@ -31,5 +31,7 @@ pub record ExportExamplesHold : Type 0 where
   -- and back; with predicate 8
   pub encodes : GivesWord (1 ∷ 4 ∷ 1 ∷ 2 ∷ 1 ∷ 13 ∷ 3 ∷ 5 ∷ 0 ∷ 0 ∷ 1 ∷ []) (0 ∷ 0xC080ACA9 ∷ [])
   pub outOfRange : GivesWord (1 ∷ 4 ∷ 1 ∷ 2 ∷ 1 ∷ 13 ∷ 8 ∷ 5 ∷ 0 ∷ 0 ∷ 1 ∷ []) (8 ∷ 0 ∷ [])
-  pub lengths : GivesLengths 128 (9 ∷ 8 ∷ 7 ∷ 6 ∷ []) (0 ∷ 32 ∷ 4096 ∷ 256 ∷ 16384 ∷ [])
-  pub noLengths : GivesLengths 512 (9 ∷ 8 ∷ 7 ∷ 6 ∷ []) (1 ∷ 9 ∷ 8 ∷ 7 ∷ 6 ∷ [])
+  -- whatever the level; of a vector length that is not allowed; where the level is missing
+  pub lengths : GivesLengths (128 ∷ 4 ∷ []) (9 ∷ 8 ∷ 7 ∷ 6 ∷ []) (0 ∷ 32 ∷ 4096 ∷ 256 ∷ 16384 ∷ [])
+  pub noLengths : GivesLengths (512 ∷ 3 ∷ []) (9 ∷ 8 ∷ 7 ∷ 6 ∷ []) (1 ∷ 9 ∷ 8 ∷ 7 ∷ 6 ∷ [])
+  pub noLevel : GivesLengths (128 ∷ []) (9 ∷ 8 ∷ 7 ∷ 6 ∷ []) (1 ∷ 9 ∷ 8 ∷ 7 ∷ 6 ∷ [])

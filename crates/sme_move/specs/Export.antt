@@ -1,14 +1,14 @@
 -- What the exported functions promise, in numbers. Renders 01 §6.
--- To believe: the settings are the numbers handed in; an answer is given as its number; results (an address, a word) are
--- always written, and buffers only with answer 0.
+-- To believe: an answer is given as its number; results (an address, a word) are written whatever the answer, those of an execution as far as the
+-- host's array has places, and buffers only with answer 0. What settings a host's numbers are stands in crates/settings/specs/Lent.antt.
 -- Assumes nothing.
-use Prim.Native.Nat.{ℕ}
+use Prim.Native.Nat.{ℕ, _+_, _*_}
 use mathlib.Core.Path.{_≡_}
-use mathlib.Core.Bool.{Bool, cond}
-use mathlib.Core.List.{List}
+use mathlib.Core.Bool.{cond}
+use mathlib.Core.List.{List, [], _∷_}
 use lib.Dec.{eqb}
 use Rattle.settings.specs.Answer.{Answer, firstValue, done, badSettings}
-use Rattle.settings.specs.Settings.{isVectorLength, settingsOf, withStreaming, withZa, withMemoryAddress, lengthsOf, lengthNumbers}
+use Rattle.settings.specs.Settings.{isVectorLength, lengthsOf, lengthNumbers}
 use Rattle.settings.specs.declared.Settings.{Settings}
 use Rattle.encoding.specs.Codec.{decodeAnswer, encodeAnswer}
 use Rattle.semantics.specs.Answer.{executedNumber, executedAddress}
@@ -16,16 +16,26 @@ use Rattle.semantics.specs.State.{State}
 use Rattle.semantics.specs.Promise.{Executes}
 use Rattle.semantics.specs.declared.answer.Executed.{Executed}
 
--- the settings that a host hands in
-abbrev pub settingsWith : ℕ → ℕ → Bool → Bool → ℕ → Settings
-settingsWith B level streaming za address = withMemoryAddress (withZa (withStreaming (settingsOf B level) streaming) za) address
+-- the version of what is exported: major and minor number
+abbrev pub version : ℕ
+version = 65536 * 0 + 5
 
--- one execution: what executing promises, with the number and the address of its answer
-pub record Exports (s : Settings) (w : ℕ) (t : State) (r a : ℕ) (t′ : State) : Type 0 where
+-- numbers at the beginning of a host's array, as far as it has places for them; what is behind them stays
+abbrev pub filled : List ℕ → List ℕ → List ℕ
+filled [] old = old
+filled (n ∷ ns) [] = []
+filled (n ∷ ns) (o ∷ old) = n ∷ filled ns old
+
+-- the results of an execution, in the order in which a host gets them
+abbrev pub resultNumbers : Executed → List ℕ
+resultNumbers e = executedAddress e ∷ []
+
+-- one execution: what executing promises, with the number of its answer, and its results in the host's array
+pub record Exports (s : Settings) (w : ℕ) (t : State) (rs : List ℕ) (r : ℕ) (rs′ : List ℕ) (t′ : State) : Type 0 where
   pub answer : Executed
   pub executes : Executes s w t answer t′
   pub number : r ≡ executedNumber answer
-  pub address : a ≡ executedAddress answer
+  pub results : rs′ ≡ filled (resultNumbers answer) rs
 
 -- the eleven fields after decoding: those of the answer where it is 0, else as they were
 abbrev pub fieldsAfter : Answer → List ℕ → List ℕ
@@ -40,6 +50,6 @@ pub record EncodeExports (f : List ℕ) (r w : ℕ) : Type 0 where
   pub number : r ≡ encodeAnswer f .number
   pub word : w ≡ firstValue (encodeAnswer f)
 
-pub record LengthExports (B : ℕ) (l : List ℕ) (r : ℕ) (l′ : List ℕ) : Type 0 where
-  pub number : r ≡ cond (isVectorLength B) done badSettings
-  pub lengths : l′ ≡ cond (isVectorLength B) (lengthNumbers (lengthsOf (settingsOf B 0))) l
+pub record LengthExports (s : Settings) (l : List ℕ) (r : ℕ) (l′ : List ℕ) : Type 0 where
+  pub number : r ≡ cond (isVectorLength (s .«vector_bytes»)) done badSettings
+  pub lengths : l′ ≡ cond (isVectorLength (s .«vector_bytes»)) (lengthNumbers (lengthsOf s)) l

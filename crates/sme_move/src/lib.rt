@@ -1,43 +1,48 @@
-// What hosts link: functions over numbers and slices, which only call the crates below.
+// What hosts link: functions over numbers and slices, which only call the crates below. Settings and results are arrays with a count,
+// so that a later one changes no function here (docs/DECISIONS.md).
 ghost use mathlib.Core.Path.{_≡_};
-ghost use Rattle.settings.specs.Settings.{settingsOf, checkNumber};
+ghost use Rattle.settings.specs.Settings.{checkNumber};
+ghost use Rattle.settings.specs.Lent.{settingsIn};
 ghost use Rattle.semantics.specs.State.{stateOf};
 ghost use Rattle.planner.specs.Tile.{tileOf};
 ghost use Rattle.lent_tiles.specs.Lent.{TakesTile, GivesUpTile};
-ghost use Rattle.sme_move.specs.Export.{settingsWith, Exports, DecodeExports, EncodeExports, LengthExports};
+ghost use Rattle.sme_move.specs.Export.{version, Exports, DecodeExports, EncodeExports, LengthExports};
 use encoding::Decoded;
-use settings::Settings;
+
+// The version of what is exported. An archive has such a function for its own version and for each before it whose hosts it serves, so
+// that a host of a later version does not link with it.
+#[no_mangle]
+pub extern "C" fn sme_version_0_5() -> u32
+    ensures { λ r. ⌜ r ≡ version ⌝ }
+{
+    5
+}
 
 // Executes one instruction word on the buffers that are lent, and returns the answer's number
-// (document 01 §6). The address that answer 7 carries is written to `address`, 0 with every other. A
-// refusal changes no buffer.
+// (document 01 §6). The result is the address that answer 7 carries, 0 with every other; it is written where `results` has a place
+// for it. A refusal changes no buffer.
 #[no_mangle]
-pub extern "C" fn sme_execute(
-    vector_bytes: u64,
-    level: u64,
-    streaming: bool,
-    za_on: bool,
-    memory_address: u64,
+pub extern "C" fn sme_execute_word(
+    given: &[u64],
     word: u32,
     x: &[u64],
     z: &mut [u8],
     p: &[u8],
     za: &mut [u8],
     memory: &mut [u8],
-    address: &mut u64,
+    results: &mut [u64],
 ) -> u32
-    ensures { λ r. ⌜ Exports (settingsWith «vector_bytes» level streaming «za_on» «memory_address») word (stateOf (now (x .entry)) (now (z .entry)) (now (p .entry)) (now (za .entry)) (now (memory .entry))) r (now (address .exit)) (stateOf (now (x .entry)) (now (z .exit)) (now (p .entry)) (now (za .exit)) (now (memory .exit))) ⌝ }
+    ensures { λ r. ⌜ Exports (settingsIn (now (given .entry))) word (stateOf (now (x .entry)) (now (z .entry)) (now (p .entry)) (now (za .entry)) (now (memory .entry))) (now (results .entry)) r (now (results .exit)) (stateOf (now (x .entry)) (now (z .exit)) (now (p .entry)) (now (za .exit)) (now (memory .exit))) ⌝ }
 {
-    let settings = Settings {
-        vector_bytes: vector_bytes,
-        level: level,
-        streaming: streaming,
-        za: za_on,
-        memory_address: memory_address,
-    };
+    let settings = settings::settings_in(given);
     let answer = execute::execute(settings, word, x, z, p, za, memory);
-    *address = answer.address();
-    answer.number()
+    // Both are known before the test, which then costs one jump and not one on each way out.
+    let number = answer.number();
+    let address = answer.address();
+    if 0 < results.len() {
+        results[0] = address;
+    }
+    number
 }
 
 // Decodes a word at a feature level, and returns the answer's number: 0 with the operation's eleven
@@ -66,23 +71,23 @@ pub extern "C" fn sme_encode(fields: &[u8; 11], word: &mut u32) -> u32
     encoded.number()
 }
 
-// 0 where settings may have this vector length and feature level, else 1.
+// 0 where a machine may have these settings, else 1.
 #[no_mangle]
-pub extern "C" fn sme_check_settings(vector_bytes: u64, level: u64) -> u32
-    ensures { λ r. ⌜ r ≡ checkNumber (settingsOf «vector_bytes» level) ⌝ }
+pub extern "C" fn sme_check(given: &[u64]) -> u32
+    ensures { λ r. ⌜ r ≡ checkNumber (settingsIn (now (given .entry))) ⌝ }
 {
-    let made = Settings::new(vector_bytes, level);
-    let answer = made.answer;
-    answer.number()
+    let settings = settings::settings_in(given);
+    settings.check().number()
 }
 
-// The lengths that a vector length fixes, in the order X (in numbers), Z, P, ZA (in bytes), and 0; or 1
-// for a vector length that is not allowed, with `lengths` as it was.
+// The lengths that the vector length of these settings fixes, in the order X (in numbers), Z, P, ZA (in bytes), and 0; or 1 for a
+// vector length that is not allowed, with `lengths` as it was.
 #[no_mangle]
-pub extern "C" fn sme_lengths(vector_bytes: u64, lengths: &mut [u64; 4]) -> u32
-    ensures { λ r. ⌜ LengthExports «vector_bytes» (now (lengths .entry)) r (now (lengths .exit)) ⌝ }
+pub extern "C" fn sme_measure(given: &[u64], lengths: &mut [u64; 4]) -> u32
+    ensures { λ r. ⌜ LengthExports (settingsIn (now (given .entry))) (now (lengths .entry)) r (now (lengths .exit)) ⌝ }
 {
-    settings::measure(vector_bytes, lengths).number()
+    let settings = settings::settings_in(given);
+    settings::measure(settings.vector_bytes, lengths).number()
 }
 
 // Takes the lowest-numbered free tile with elements of so many bytes, and returns the answer's number: 0, with the

@@ -8,12 +8,10 @@ use crate::settings::Settings;
 const UNWRITTEN: u64 = 0x5A5A_5A5A_5A5A_5A5A;
 
 extern "C" {
-    fn sme_execute(
-        vector_bytes: u64,
-        level: u64,
-        streaming: bool,
-        za_on: bool,
-        memory_address: u64,
+    fn sme_version_0_5() -> u32;
+    fn sme_execute_word(
+        settings: *const u64,
+        settings_len: usize,
         word: u32,
         x: *const u64,
         x_len: usize,
@@ -25,12 +23,13 @@ extern "C" {
         za_len: usize,
         memory: *mut u8,
         memory_len: usize,
-        address: *mut u64,
+        results: *mut u64,
+        results_len: usize,
     ) -> u32;
     fn sme_decode(word: u32, level: u64, fields: *mut [u8; 11]) -> u32;
     fn sme_encode(fields: *const [u8; 11], word: *mut u32) -> u32;
-    fn sme_check_settings(vector_bytes: u64, level: u64) -> u32;
-    fn sme_lengths(vector_bytes: u64, lengths: *mut [u64; 4]) -> u32;
+    fn sme_check(settings: *const u64, settings_len: usize) -> u32;
+    fn sme_measure(settings: *const u64, settings_len: usize, lengths: *mut [u64; 4]) -> u32;
     fn sme_take_tile(
         tiles: *mut u64,
         tiles_len: usize,
@@ -47,6 +46,44 @@ extern "C" {
     ) -> u32;
 }
 
+/// The version that this package is written for: 65536 times the major number and the minor one.
+pub const VERSION: u32 = 5;
+
+/// The version of the archive. It is never less than [`VERSION`]: an older archive has no such function, so that a
+/// program that uses this package does not link with it.
+///
+/// ```
+/// use sme_move::numbers;
+///
+/// assert!(numbers::version() >= numbers::VERSION);
+/// ```
+pub fn version() -> u32 {
+    // SAFETY: a number only.
+    unsafe { sme_version_0_5() }
+}
+
+/// For the linker, in programs that do not ask for the version too.
+#[used]
+static NEEDED: unsafe extern "C" fn() -> u32 = sme_version_0_5;
+
+/// The settings as the archive's functions take them.
+fn given(settings: Settings) -> [u64; 5] {
+    let Settings {
+        vector_bytes,
+        level,
+        streaming,
+        za,
+        memory_address,
+    } = settings;
+    [
+        vector_bytes,
+        level,
+        streaming.into(),
+        za.into(),
+        memory_address,
+    ]
+}
+
 /// Executes a word: the answer's number, and the address that 7 carries, 0 with every other.
 pub fn execute(settings: Settings, word: u32, buffers: Buffers<'_>) -> (u32, u64) {
     let Buffers {
@@ -56,16 +93,15 @@ pub fn execute(settings: Settings, word: u32, buffers: Buffers<'_>) -> (u32, u64
         za,
         memory,
     } = buffers;
+    let given = given(settings);
     let mut address = UNWRITTEN;
     // SAFETY: each pointer comes from a slice that lives through the call and goes with that slice's
-    // length. What is written is borrowed as writable, so it overlaps nothing; X and P are only read.
+    // length, and the address is an array of one. What is written is borrowed as writable, so it overlaps nothing;
+    // settings, X and P are only read.
     let number = unsafe {
-        sme_execute(
-            settings.vector_bytes,
-            settings.level,
-            settings.streaming,
-            settings.za,
-            settings.memory_address,
+        sme_execute_word(
+            given.as_ptr(),
+            given.len(),
             word,
             x.as_ptr(),
             x.len(),
@@ -78,6 +114,7 @@ pub fn execute(settings: Settings, word: u32, buffers: Buffers<'_>) -> (u32, u64
             memory.as_mut_ptr(),
             memory.len(),
             &mut address,
+            1,
         )
     };
     (number, address)
@@ -95,16 +132,29 @@ pub fn encode(fields: &[u8; 11], word: &mut u32) -> u32 {
     unsafe { sme_encode(fields, word) }
 }
 
-/// 0 where the vector length and the level are allowed, else 1.
-pub fn check_settings(vector_bytes: u64, level: u64) -> u32 {
-    // SAFETY: numbers only.
-    unsafe { sme_check_settings(vector_bytes, level) }
+/// 0 where a machine may have these settings, else 1.
+pub fn check(settings: Settings) -> u32 {
+    let given = given(settings);
+    // SAFETY: the pointer comes from an array that lives through the call, and goes with its length.
+    unsafe { sme_check(given.as_ptr(), given.len()) }
 }
 
-/// 0 with the lengths of X (in numbers), Z, P and ZA (in bytes) written, or 1 with `lengths` as it was.
+/// 0 with the lengths of X (in numbers), Z, P and ZA (in bytes) that the settings fix written, or 1 with `lengths` as it was.
+/// Only the vector length is checked.
+pub fn measure(settings: Settings, lengths: &mut [u64; 4]) -> u32 {
+    let given = given(settings);
+    // SAFETY: as above, and `lengths` is a writable place of four numbers that lives through the call.
+    unsafe { sme_measure(given.as_ptr(), given.len(), lengths) }
+}
+
+/// [`check`] of new settings of this vector length and level.
+pub fn check_settings(vector_bytes: u64, level: u64) -> u32 {
+    check(Settings::unchecked(vector_bytes, level))
+}
+
+/// [`measure`] of new settings of this vector length.
 pub fn lengths(vector_bytes: u64, lengths: &mut [u64; 4]) -> u32 {
-    // SAFETY: `lengths` is a writable place of four numbers that lives through the call.
-    unsafe { sme_lengths(vector_bytes, lengths) }
+    measure(Settings::unchecked(vector_bytes, 0), lengths)
 }
 
 /// Takes a tile: the answer's number, and the tile's, 0 with a refusal. Two numbers of `tiles` are a held tile, of

@@ -44,19 +44,35 @@ impl Settings {
     /// assert_eq!(Settings::new(48, 3), Err(Refusal::BadSettings));
     /// ```
     pub fn new(vector_bytes: u64, level: u64) -> Result<Settings, Refusal> {
-        let settings = Settings {
+        let settings = Settings::unchecked(vector_bytes, level);
+        settings.check().map(|()| settings)
+    }
+
+    /// The same without a check: any numbers can be in the fields, and execution checks them again.
+    pub(crate) const fn unchecked(vector_bytes: u64, level: u64) -> Settings {
+        Settings {
             vector_bytes,
             level,
             streaming: false,
             za: false,
             memory_address: 0,
-        };
-        settings.check().map(|()| settings)
+        }
     }
+
+    /// The settings that a refused [`Settings::new`] leaves a machine with (document 01): the shortest vectors and
+    /// level 0.
+    ///
+    /// ```
+    /// use sme_move::Settings;
+    ///
+    /// let settings = Settings::new(48, 3).unwrap_or(Settings::REFUSED);
+    /// assert_eq!((settings.vector_bytes, settings.level), (16, 0));
+    /// ```
+    pub const REFUSED: Settings = Settings::unchecked(Settings::MIN_VECTOR_BYTES, 0);
 
     /// Whether the vector length and the level are allowed.
     pub fn check(self) -> Result<(), Refusal> {
-        Refusal::check(numbers::check_settings(self.vector_bytes, self.level), 0)
+        Refusal::check(numbers::check(self), 0)
     }
 
     #[must_use]
@@ -88,7 +104,7 @@ impl Settings {
     /// ```
     pub fn lengths(self) -> Result<Lengths, Refusal> {
         let mut lengths = [0; 4];
-        Refusal::check(numbers::lengths(self.vector_bytes, &mut lengths), 0)?;
+        Refusal::check(numbers::measure(self, &mut lengths), 0)?;
         let [x, z, p, za] = lengths.map(|length| length as usize);
         Ok(Lengths { x, z, p, za })
     }

@@ -1,6 +1,6 @@
 /*
  * Deliberately wrong units: linked between the tests and the archive (the linker's --wrap), this hands each call of
- * sme_execute on with one mistake about sizes, which the environment variable WRONG names. The tests must notice each.
+ * sme_execute_word on with one mistake about sizes, which the environment variable WRONG names. The tests must notice each.
  */
 #include "sme_move.h"
 
@@ -69,12 +69,14 @@ static const mistake mistakes[] = {
     {"LongMemoryRefused", LONG_MEMORY, 0},
 };
 
-/* What a call hands over. */
+/* What a call hands over; the tests with mistakes give every setting, as the wrappers do. */
 typedef struct call {
     sme_settings settings;
+    size_t settings_count;
     uint32_t word;
     sme_buffers lent;
-    uint64_t *address;
+    uint64_t *results;
+    size_t results_count;
 } call;
 
 static const mistake *chosen(void)
@@ -194,35 +196,42 @@ static void spoil(const mistake *wrong, call *own)
 }
 
 /* What the linker makes of the tests' calls, and how it lets this file call the archive. */
-uint32_t __wrap_sme_execute(uint64_t vector_bytes, uint64_t level, bool streaming, bool za_on,
-                            uint64_t memory_address, uint32_t word, const uint64_t *x, size_t x_count, uint8_t *z,
-                            size_t z_bytes, const uint8_t *p, size_t p_bytes, uint8_t *za, size_t za_bytes,
-                            uint8_t *memory, size_t memory_bytes, uint64_t *address);
-uint32_t __real_sme_execute(uint64_t vector_bytes, uint64_t level, bool streaming, bool za_on,
-                            uint64_t memory_address, uint32_t word, const uint64_t *x, size_t x_count, uint8_t *z,
-                            size_t z_bytes, const uint8_t *p, size_t p_bytes, uint8_t *za, size_t za_bytes,
-                            uint8_t *memory, size_t memory_bytes, uint64_t *address);
+uint32_t __wrap_sme_execute_word(const uint64_t *settings, size_t settings_count, uint32_t word, const uint64_t *x,
+                                 size_t x_count, uint8_t *z, size_t z_bytes, const uint8_t *p, size_t p_bytes,
+                                 uint8_t *za, size_t za_bytes, uint8_t *memory, size_t memory_bytes,
+                                 uint64_t *results, size_t results_count);
+uint32_t __real_sme_execute_word(const uint64_t *settings, size_t settings_count, uint32_t word, const uint64_t *x,
+                                 size_t x_count, uint8_t *z, size_t z_bytes, const uint8_t *p, size_t p_bytes,
+                                 uint8_t *za, size_t za_bytes, uint8_t *memory, size_t memory_bytes,
+                                 uint64_t *results, size_t results_count);
 
 static uint32_t hand_on(call own)
 {
-    const sme_settings *settings = &own.settings;
     const sme_buffers *lent = &own.lent;
-    return __real_sme_execute(settings->vector_bytes, settings->level, settings->streaming, settings->za_on,
-                              settings->memory_address, own.word, lent->x, lent->x_count, lent->z, lent->z_bytes,
-                              lent->p, lent->p_bytes, lent->za, lent->za_bytes, lent->memory, lent->memory_bytes,
-                              own.address);
+    uint64_t given[SME_SETTING_COUNT];
+    sme_settings_give(own.settings, given);
+    /* A count that is too large is handed on as such; nothing behind the settings is then read. */
+    return __real_sme_execute_word(given, own.settings_count, own.word, lent->x, lent->x_count, lent->z, lent->z_bytes,
+                                   lent->p, lent->p_bytes, lent->za, lent->za_bytes, lent->memory, lent->memory_bytes,
+                                   own.results, own.results_count);
 }
 
-uint32_t __wrap_sme_execute(uint64_t vector_bytes, uint64_t level, bool streaming, bool za_on,
-                            uint64_t memory_address, uint32_t word, const uint64_t *x, size_t x_count, uint8_t *z,
-                            size_t z_bytes, const uint8_t *p, size_t p_bytes, uint8_t *za, size_t za_bytes,
-                            uint8_t *memory, size_t memory_bytes, uint64_t *address)
+uint32_t __wrap_sme_execute_word(const uint64_t *settings, size_t settings_count, uint32_t word, const uint64_t *x,
+                                 size_t x_count, uint8_t *z, size_t z_bytes, const uint8_t *p, size_t p_bytes,
+                                 uint8_t *za, size_t za_bytes, uint8_t *memory, size_t memory_bytes,
+                                 uint64_t *results, size_t results_count)
 {
+    uint64_t all[SME_SETTING_COUNT] = {0};
+    for (size_t i = 0; i < settings_count && i < SME_SETTING_COUNT; i++) {
+        all[i] = settings[i];
+    }
     const mistake *wrong = chosen();
-    const call right = {{vector_bytes, level, streaming, za_on, memory_address},
+    const call right = {{all[0], all[1], all[2] != 0, all[3] != 0, all[4]},
+                        settings_count,
                         word,
                         {x, x_count, z, z_bytes, p, p_bytes, za, za_bytes, memory, memory_bytes},
-                        address};
+                        results,
+                        results_count};
     call own = right;
     spoil(wrong, &own);
     uint32_t answer = hand_on(own);

@@ -7,11 +7,8 @@ use std::hint::black_box;
 
 /// The arguments of the archive's function.
 type Function = extern "C" fn(
-    u64,
-    u64,
-    bool,
-    bool,
-    u64,
+    *const u64,
+    usize,
     u32,
     *const u64,
     usize,
@@ -24,16 +21,14 @@ type Function = extern "C" fn(
     *mut u8,
     usize,
     &mut u64,
+    usize,
 ) -> u32;
 
 /// Takes what the archive's function takes, and is done at once.
 #[inline(never)]
 extern "C" fn nothing(
-    _: u64,
-    _: u64,
-    _: bool,
-    _: bool,
-    _: u64,
+    _: *const u64,
+    _: usize,
     _: u32,
     _: *const u64,
     _: usize,
@@ -46,6 +41,7 @@ extern "C" fn nothing(
     _: *mut u8,
     _: usize,
     address: &mut u64,
+    _: usize,
 ) -> u32 {
     *address = 0;
     0
@@ -57,12 +53,16 @@ extern "C" fn nothing(
 pub fn execute(settings: Settings, word: u32, buffers: Buffers<'_>) -> (u32, u64) {
     let mut address = u64::MAX;
     let function: Function = black_box(nothing);
-    let answer = function(
+    let given = [
         settings.vector_bytes,
         settings.level,
-        settings.streaming,
-        settings.za,
+        settings.streaming.into(),
+        settings.za.into(),
         settings.memory_address,
+    ];
+    let answer = function(
+        given.as_ptr(),
+        given.len(),
         word,
         buffers.x.as_ptr(),
         buffers.x.len(),
@@ -75,6 +75,7 @@ pub fn execute(settings: Settings, word: u32, buffers: Buffers<'_>) -> (u32, u64
         buffers.memory.as_mut_ptr(),
         buffers.memory.len(),
         &mut address,
+        1,
     );
     (answer, address)
 }

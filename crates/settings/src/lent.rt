@@ -1,0 +1,53 @@
+// Settings as hosts lend them: numbers in a fixed order, of which the last may be missing.
+use crate::Settings;
+ghost use mathlib.Core.Path.{_≡_};
+ghost use lib.ListN.{getD};
+ghost use Rattle.settings.specs.Lent.{settingsAt, settingsIn};
+
+// The number at a place, or what it is where it is missing.
+fn item(items: &[u64], i: usize, missing: u64) -> u64
+    ensures { λ r. ⌜ r ≡ getD (now (items .entry)) i missing ⌝ }
+{
+    if i < items.len() {
+        return items[i];
+    }
+    missing
+}
+
+// Settings of which every number is given.
+fn settings_at(items: [u64; 5]) -> Settings
+    ensures { λ r. ⌜ r ≡ settingsAt items ⌝ }
+{
+    Settings {
+        vector_bytes: items[0],
+        level: items[1],
+        streaming: items[2] != 0,
+        za: items[3] != 0,
+        memory_address: items[4],
+    }
+}
+
+// The settings that numbers are. Vector length and level must be given, and no more than there are settings; else these are
+// settings that no machine has, so that every call on them is answered 1.
+pub fn settings_in(items: &[u64]) -> Settings
+    ensures { λ r. ⌜ r ≡ settingsIn (now (items .entry)) ⌝ }
+{
+    let count = items.len();
+    // Hosts give all, as a rule: one test then, and not one for each.
+    if count == 5 {
+        return settings_at([items[0], items[1], items[2], items[3], items[4]]);
+    }
+    if count < 2 {
+        return settings_at([0; 5]);
+    }
+    if 5 < count {
+        return settings_at([0; 5]);
+    }
+    settings_at([
+        items[0],
+        items[1],
+        item(items, 2, 0),
+        item(items, 3, 0),
+        item(items, 4, 0),
+    ])
+}

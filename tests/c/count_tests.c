@@ -1,0 +1,104 @@
+/*
+ * Settings and results as arrays of every count, of exact length beside pages that may not be touched: what is missing,
+ * what is too much, and what stays.
+ */
+#include "check.h"
+#include "guarded.h"
+#include "machine.h"
+#include "sme_move.h"
+
+#include <string.h>
+
+enum { MOST = 8, B = 32 };
+
+/* A load of memory's first bytes to row 0 of the array, by registers 0 (the base) and 12 (the row). */
+static const uint32_t load = 0xE01F0000;
+
+/* The answer of the load with so many numbers of these settings: a switch that is missing is off, and memory is at 0. */
+static uint32_t answer_with(size_t count)
+{
+    switch (count) {
+    case 2:
+        return SME_STREAMING_OFF;
+    case 3:
+        return SME_ZA_OFF;
+    case 4:
+        return SME_OUTSIDE_MEMORY;
+    case 5:
+        return SME_DONE;
+    default:
+        return SME_BAD_SETTINGS;
+    }
+}
+
+/* So many numbers, read only, the switches being on by any number but 0. */
+static guarded given_new(size_t count)
+{
+    static const uint64_t numbers[MOST] = {B, 1, UINT64_MAX, UINT64_C(1) << 32, 0x1000};
+    guarded given = guarded_new(count * sizeof numbers[0], 3);
+    memcpy(given.bytes, numbers, given.length);
+    guarded_read_only(&given);
+    return given;
+}
+
+static const uint64_t *numbers_of(const guarded *array)
+{
+    return array->length == 0 ? NULL : (const uint64_t *)(const void *)array->bytes;
+}
+
+/* Executes with so many settings and so many places for results. */
+static void execute_with(size_t count, size_t places)
+{
+    guarded given = given_new(count), results = guarded_new(places * sizeof(uint64_t), 60);
+    uint8_t wanted[MOST * sizeof(uint64_t)];
+    memcpy(wanted, results.bytes, results.length);
+    machine own = machine_new(B, 64);
+    set_x(&own, 0, 0x1000);
+    set_x(&own, 12, 0);
+    const sme_buffers lent = lend(&own);
+    uint64_t *written = places == 0 ? NULL : (uint64_t *)(void *)results.bytes;
+    uint32_t answer = sme_execute_word(numbers_of(&given), count, load, lent.x, lent.x_count, lent.z, lent.z_bytes,
+                                       lent.p, lent.p_bytes, lent.za, lent.za_bytes, lent.memory, lent.memory_bytes,
+                                       written, places);
+    CHECK_EQUAL(answer, answer_with(count));
+    const uint64_t address = answer == SME_OUTSIDE_MEMORY ? 0x1000 : 0;
+    if (places > 0) {
+        memcpy(wanted, &address, sizeof address);
+    }
+    CHECK(guarded_check(&results) && memcmp(results.bytes, wanted, results.length) == 0);
+    const bool moved = memcmp(own.za.bytes, own.memory.bytes, B) == 0;
+    CHECK_EQUAL(moved, answer == SME_DONE);
+    CHECK(moved || memcmp(own.za.bytes, own.wanted_za, own.za.length) == 0);
+    seen[EXECUTE][answer]++;
+    machine_free(&own);
+    guarded_free(&given);
+    guarded_free(&results);
+}
+
+/* The vector length and the level are the same ones with any count that has both. */
+static void check_with(size_t count)
+{
+    guarded given = given_new(count);
+    const uint32_t wanted = count >= 2 && count <= 5 ? SME_DONE : SME_BAD_SETTINGS;
+    uint64_t four[4] = {1, 2, 3, 4};
+    CHECK_EQUAL(sme_check(numbers_of(&given), count), wanted);
+    CHECK_EQUAL(sme_measure(numbers_of(&given), count, four), wanted);
+    CHECK_EQUAL(four[0], wanted == SME_DONE ? SME_X_COUNT : 1);
+    CHECK_EQUAL(four[3], wanted == SME_DONE ? SME_ZA_BYTES(B) : 4);
+    /* so many more are never those of the low bits of the count */
+    CHECK_EQUAL(sme_check(numbers_of(&given), count + (UINT64_C(1) << 16)), SME_BAD_SETTINGS);
+    CHECK_EQUAL(sme_check(numbers_of(&given), count + (UINT64_C(1) << 32)), SME_BAD_SETTINGS);
+    seen[CHECK_SETTINGS][wanted]++;
+    seen[MEASURE][wanted]++;
+    guarded_free(&given);
+}
+
+void count_tests(void)
+{
+    for (size_t count = 0; count <= MOST; count++) {
+        check_with(count);
+        for (size_t places = 0; places <= MOST; places++) {
+            execute_with(count, places);
+        }
+    }
+}
