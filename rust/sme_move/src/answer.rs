@@ -15,7 +15,7 @@ pub enum Refusal {
     Undecodable,
     /// 4: streaming mode is off.
     StreamingOff,
-    /// 5: ZA is off.
+    /// 5: the array is off.
     ZaOff,
     /// 6: the stack pointer is the base of a load or store with an active element, and no multiple of 16.
     StackMisaligned,
@@ -55,11 +55,18 @@ impl Refusal {
         }
     }
 
-    /// The answer of this number. The archive gives no other number, so another one means that it is
-    /// not the archive this crate was written for.
-    pub(crate) fn check(number: u32, address: u64) -> Result<(), Refusal> {
-        Err(match number {
-            0 => return Ok(()),
+    /// The refusal of a number, and of the address that came with it, which only answer 7 carries on. None for 0, which
+    /// is 'done', and for a number that is no answer.
+    ///
+    /// ```
+    /// use sme_move::Refusal;
+    ///
+    /// assert_eq!(Refusal::of_number(5, 0), Some(Refusal::ZaOff));
+    /// assert_eq!(Refusal::of_number(7, 64), Some(Refusal::OutsideMemory { address: 64 }));
+    /// assert_eq!(Refusal::of_number(0, 0), None);
+    /// ```
+    pub fn of_number(number: u32, address: u64) -> Option<Refusal> {
+        Some(match number {
             1 => Refusal::BadSettings,
             2 => Refusal::BadLengths,
             3 => Refusal::Undecodable,
@@ -70,8 +77,18 @@ impl Refusal {
             8 => Refusal::OutOfRange,
             13 => Refusal::NoFreeTile,
             16 => Refusal::BadHeld,
-            _ => panic!("the archive gave answer {number}, which does not exist"),
+            _ => return None,
         })
+    }
+
+    /// What an answer of the archive comes to. It gives no number without a meaning, so such a one means that it is
+    /// not the archive this crate was written for.
+    pub(crate) fn check(number: u32, address: u64) -> Result<(), Refusal> {
+        match Refusal::of_number(number, address) {
+            Some(refusal) => Err(refusal),
+            None if number == 0 => Ok(()),
+            None => panic!("the archive gave answer {number}, which does not exist"),
+        }
     }
 }
 
@@ -79,10 +96,13 @@ impl fmt::Display for Refusal {
     fn fmt(&self, f: &mut fmt::Formatter<'_>) -> fmt::Result {
         match self {
             Refusal::BadSettings => write!(f, "the vector length or the level is not allowed"),
-            Refusal::BadLengths => write!(f, "a buffer has the wrong length"),
+            Refusal::BadLengths => write!(
+                f,
+                "a buffer has the wrong length, or memory ends above 2^64"
+            ),
             Refusal::Undecodable => write!(f, "the word is no instruction of this level"),
             Refusal::StreamingOff => write!(f, "streaming mode is off"),
-            Refusal::ZaOff => write!(f, "ZA is off"),
+            Refusal::ZaOff => write!(f, "the array is off"),
             Refusal::StackMisaligned => write!(f, "the stack pointer is no multiple of 16"),
             Refusal::OutsideMemory { address } => {
                 write!(f, "address {address:016X} is not in memory")

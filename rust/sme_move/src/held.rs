@@ -4,7 +4,7 @@ use crate::answer::Refusal;
 use crate::numbers;
 use std::fmt;
 
-/// A tile of ZA as two numbers. Any numbers can be in it: a tile exists if its elements have 1, 2, 4, 8 or 16 bytes
+/// A tile of the array as two numbers. Any numbers can be in it: a tile exists if its elements have 1, 2, 4, 8 or 16 bytes
 /// and its number is below that.
 #[derive(Clone, Copy, Debug, PartialEq, Eq, Hash)]
 pub struct Tile {
@@ -13,7 +13,7 @@ pub struct Tile {
 }
 
 /// The tiles that a kernel holds, in the order in which they were taken. Tile t of m bytes is tiles t and t + m of 2m
-/// bytes, so tiles of different sizes may share bytes of ZA.
+/// bytes, so tiles of different sizes may share bytes of the array.
 ///
 /// ```
 /// use sme_move::{HeldTiles, Refusal, Tile};

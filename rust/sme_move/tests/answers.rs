@@ -10,14 +10,18 @@ const WITHOUT_ADDRESS: [(Refusal, u32, &str); 9] = [
         1,
         "the vector length or the level is not allowed",
     ),
-    (Refusal::BadLengths, 2, "a buffer has the wrong length"),
+    (
+        Refusal::BadLengths,
+        2,
+        "a buffer has the wrong length, or memory ends above 2^64",
+    ),
     (
         Refusal::Undecodable,
         3,
         "the word is no instruction of this level",
     ),
     (Refusal::StreamingOff, 4, "streaming mode is off"),
-    (Refusal::ZaOff, 5, "ZA is off"),
+    (Refusal::ZaOff, 5, "the array is off"),
     (
         Refusal::StackMisaligned,
         6,
@@ -48,6 +52,19 @@ fn a_refusal_has_its_number_and_words_and_no_address() {
         assert_eq!(refusal.number(), number);
         assert_eq!(refusal.address(), 0, "{refusal:?}");
         assert_eq!(refusal.to_string(), words);
+        for address in [0, 1, u64::MAX] {
+            assert_eq!(Refusal::of_number(number, address), Some(refusal));
+        }
+    }
+}
+
+/// 0 is 'done', and the others were never given a meaning here.
+#[test]
+fn other_numbers_are_no_refusals() {
+    let given = WITHOUT_ADDRESS.map(|(_, number, _)| number);
+    let others = (0..300).chain([1 << 16, (1 << 16) + 1, u32::MAX]);
+    for number in others.filter(|number| *number != 7 && !given.contains(number)) {
+        assert_eq!(Refusal::of_number(number, 1), None);
     }
 }
 
@@ -62,6 +79,7 @@ fn outside_memory_has_its_address() {
     ] {
         let refusal = Refusal::OutsideMemory { address };
         assert_eq!((refusal.number(), refusal.address()), (7, address));
+        assert_eq!(Refusal::of_number(7, address), Some(refusal));
         let words = format!("address {digits} is not in memory");
         assert_eq!(refusal.to_string(), words);
     }
