@@ -1,16 +1,17 @@
 //! The eleven numbers of an operation.
 
+use crate::kind::Kind;
 use crate::operation::{Direction, ElementSize, Operation, RegisterCount};
 
 /// An operation as numbers: those that the C interface has, in its order. What a kind does not have is 0.
 #[derive(Clone, Copy, Debug, Default, PartialEq, Eq, Hash)]
 pub struct Fields {
     /// 1 move to tile, 2 move and zero from tile, 3 move from array, 4 move and zero from array, 5 store,
-    /// 6 move from tile, 7 load.
+    /// 6 move from tile, 7 load: the number of a [`Kind`].
     pub kind: u8,
     /// 1, 2, 4, 8 or 16; 0 for the array kinds.
     pub element_bytes: u8,
-    /// 0 horizontal, 1 vertical.
+    /// 0 horizontal, 1 vertical: the number of a [`Direction`].
     pub direction: u8,
     pub tile: u8,
     pub offset: u8,
@@ -82,7 +83,7 @@ impl From<Operation> for Fields {
                 predicate,
                 vector,
                 registers: 1,
-                ..tile_fields(1, size, direction, tile, offset, index)
+                ..tile_fields(Kind::MovaToTile, size, direction, tile, offset, index)
             },
             Operation::MovazFromTile {
                 size,
@@ -94,20 +95,20 @@ impl From<Operation> for Fields {
             } => Fields {
                 vector,
                 registers: 1,
-                ..tile_fields(2, size, direction, tile, offset, index)
+                ..tile_fields(Kind::MovazFromTile, size, direction, tile, offset, index)
             },
             Operation::MovaFromArray {
                 registers,
                 offset,
                 index,
                 first,
-            } => array_fields(3, registers, offset, index, first),
+            } => array_fields(Kind::MovaFromArray, registers, offset, index, first),
             Operation::MovazFromArray {
                 registers,
                 offset,
                 index,
                 first,
-            } => array_fields(4, registers, offset, index, first),
+            } => array_fields(Kind::MovazFromArray, registers, offset, index, first),
             Operation::St1 {
                 size,
                 direction,
@@ -121,7 +122,7 @@ impl From<Operation> for Fields {
                 predicate,
                 base,
                 offset_register,
-                ..tile_fields(5, size, direction, tile, offset, index)
+                ..tile_fields(Kind::St1, size, direction, tile, offset, index)
             },
             Operation::MovaFromTile {
                 size,
@@ -135,7 +136,7 @@ impl From<Operation> for Fields {
                 predicate,
                 vector,
                 registers: 1,
-                ..tile_fields(6, size, direction, tile, offset, index)
+                ..tile_fields(Kind::MovaFromTile, size, direction, tile, offset, index)
             },
             Operation::Ld1 {
                 size,
@@ -150,7 +151,7 @@ impl From<Operation> for Fields {
                 predicate,
                 base,
                 offset_register,
-                ..tile_fields(7, size, direction, tile, offset, index)
+                ..tile_fields(Kind::Ld1, size, direction, tile, offset, index)
             },
         }
     }
@@ -158,7 +159,7 @@ impl From<Operation> for Fields {
 
 /// What every operation on a tile has.
 fn tile_fields(
-    kind: u8,
+    kind: Kind,
     size: ElementSize,
     direction: Direction,
     tile: u8,
@@ -166,7 +167,7 @@ fn tile_fields(
     index: u8,
 ) -> Fields {
     Fields {
-        kind,
+        kind: kind.number(),
         element_bytes: size.bytes(),
         direction: direction.number(),
         tile,
@@ -176,9 +177,9 @@ fn tile_fields(
     }
 }
 
-fn array_fields(kind: u8, registers: RegisterCount, offset: u8, index: u8, first: u8) -> Fields {
+fn array_fields(kind: Kind, registers: RegisterCount, offset: u8, index: u8, first: u8) -> Fields {
     Fields {
-        kind,
+        kind: kind.number(),
         offset,
         index,
         vector: first,
@@ -209,8 +210,8 @@ impl Fields {
         let size = ElementSize::of_bytes(self.element_bytes);
         let direction = Direction::of_number(self.direction)?;
         let registers = RegisterCount::of_number(self.registers);
-        Some(match self.kind {
-            1 => Operation::MovaToTile {
+        Some(match Kind::of_number(self.kind)? {
+            Kind::MovaToTile => Operation::MovaToTile {
                 size: size?,
                 direction,
                 tile,
@@ -219,7 +220,7 @@ impl Fields {
                 predicate,
                 vector,
             },
-            2 => Operation::MovazFromTile {
+            Kind::MovazFromTile => Operation::MovazFromTile {
                 size: size?,
                 direction,
                 tile,
@@ -227,19 +228,19 @@ impl Fields {
                 index,
                 vector,
             },
-            3 => Operation::MovaFromArray {
+            Kind::MovaFromArray => Operation::MovaFromArray {
                 registers: registers?,
                 offset,
                 index,
                 first: vector,
             },
-            4 => Operation::MovazFromArray {
+            Kind::MovazFromArray => Operation::MovazFromArray {
                 registers: registers?,
                 offset,
                 index,
                 first: vector,
             },
-            5 => Operation::St1 {
+            Kind::St1 => Operation::St1 {
                 size: size?,
                 direction,
                 tile,
@@ -249,7 +250,7 @@ impl Fields {
                 base,
                 offset_register,
             },
-            6 => Operation::MovaFromTile {
+            Kind::MovaFromTile => Operation::MovaFromTile {
                 size: size?,
                 direction,
                 tile,
@@ -258,7 +259,7 @@ impl Fields {
                 predicate,
                 vector,
             },
-            7 => Operation::Ld1 {
+            Kind::Ld1 => Operation::Ld1 {
                 size: size?,
                 direction,
                 tile,
@@ -268,7 +269,6 @@ impl Fields {
                 base,
                 offset_register,
             },
-            _ => return None,
         })
     }
 }

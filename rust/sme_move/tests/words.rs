@@ -4,7 +4,7 @@
 use sme_move::Direction::{Horizontal, Vertical};
 use sme_move::ElementSize::{Bits128, Bits16, Bits32, Bits64, Bits8};
 use sme_move::{decode, decode_fields, encode};
-use sme_move::{Direction, ElementSize, Fields, Operation, Refusal, RegisterCount};
+use sme_move::{Direction, ElementSize, Fields, Kind, Operation, Refusal, RegisterCount};
 
 /// A word, the lowest level that has it, its operation and its eleven numbers.
 type Known = (u32, u64, Operation, [u8; 11]);
@@ -279,6 +279,21 @@ fn added_operations_have_ranges() {
         other[place] = wrong;
         let operation = Fields::from(other).operation().expect("an operation");
         assert_eq!(encode(operation), Err(Refusal::OutOfRange), "{operation:?}");
+    }
+}
+
+/// A kind by itself is that of the operation, and all seven are met.
+#[test]
+fn kinds_have_their_numbers() {
+    let mut met = [false; 256];
+    for (_, _, operation, numbers) in known() {
+        assert_eq!(operation.kind().number(), numbers[0], "{operation:?}");
+        met[usize::from(numbers[0])] = true;
+    }
+    for (number, met) in (0..=255).zip(met) {
+        assert_eq!(met, (1..=7).contains(&number));
+        let kind = Kind::of_number(number);
+        assert_eq!(kind.map(Kind::number), met.then_some(number));
     }
 }
 
