@@ -1,0 +1,60 @@
+#!/usr/bin/env bash
+# Runs the examples: the hosts in C and in Rust, which must print what examples/transpose.stdout has, and the scripts,
+# in each of which every word must be done and everything be as the script expects.
+# Build first: rt staticlib sme_move. SME_MOVE_LIB_DIR is the folder of another archive.
+set -euo pipefail
+root=$(cd "$(dirname "$0")/.." && pwd)
+if [ -n "${SME_MOVE_LIB_DIR:-}" ]; then
+    # Absolute, as cargo builds in folders of its own.
+    SME_MOVE_LIB_DIR=$(cd "$SME_MOVE_LIB_DIR" && pwd)
+    export SME_MOVE_LIB_DIR
+fi
+cd "$root"
+archive=${SME_MOVE_LIB_DIR:-target/staticlib}/libsme_move.a
+cargo=(--quiet --release --offline --manifest-path rust/Cargo.toml)
+out=target/examples
+rm -rf "$out"
+mkdir -p "$out"
+
+# run NAME EXPECTED COMMAND...: the command must succeed and print what is stored
+run() {
+    "${@:3}" >"$out/printed" || {
+        echo "examples.sh: $1 ends with status $?" >&2
+        exit 1
+    }
+    diff "$2" "$out/printed" || {
+        echo "examples.sh: $1 prints something else than $2 has" >&2
+        exit 1
+    }
+    echo "$1: as stored"
+}
+
+gcc -std=c11 -Wall -Wextra -Werror -pedantic -Iinclude examples/c/transpose.c "$archive" -o "$out/transpose"
+run examples/c/transpose.c examples/transpose.stdout "$out/transpose"
+run examples/rust/transpose.rs examples/transpose.stdout cargo run "${cargo[@]}" -p sme_move --example transpose
+
+if [ ! -d examples/scripts ]; then
+    echo "there is no examples/scripts: no script was run"
+    exit 0
+fi
+shopt -s nullglob
+scripts=(examples/scripts/*.txt)
+if [ ${#scripts[@]} = 0 ]; then
+    echo "examples.sh: there is no script in examples/scripts" >&2
+    exit 1
+fi
+cargo build "${cargo[@]}" -p runner
+runner=${CARGO_TARGET_DIR:-rust/target}/release/runner
+for script in "${scripts[@]}"; do
+    expected=${script%.txt}.stdout
+    if [ -e "$expected" ]; then
+        run "$script" "$expected" "$runner" --strict --quiet "$script"
+    else
+        "$runner" --strict --quiet "$script" >"$out/printed" || {
+            echo "examples.sh: $script ends with status $?" >&2
+            cat "$out/printed" >&2
+            exit 1
+        }
+        echo "$script: as it expects"
+    fi
+done
