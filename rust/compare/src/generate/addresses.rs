@@ -174,7 +174,7 @@ fn set_registers(
 /// For bytes that is twice it, and an odd sum cannot be met.
 fn one_for_both(random: &mut Random, start: u64, m: u64) -> u64 {
     if m == 1 {
-        return start / 2 | random.bits() << 63;
+        return (start / 2) | (random.bits() << 63);
     }
     // 1 + m is odd and so its own inverse modulo 8; each step doubles the
     // number of bits for which that is so.

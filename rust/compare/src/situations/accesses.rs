@@ -11,6 +11,10 @@ const ADDRESSES: u128 = 1 << 64;
 
 /// A test of a case that has the load or store in question.
 type Holds = fn(&View) -> bool;
+/// A test of a load or store.
+type Has = fn(Flat) -> bool;
+/// A test of an element of a case's slice.
+type HoldsAt = fn(&View, usize) -> bool;
 
 /// With an active element, or where it is said with none.
 const DONE: [(&str, Holds); 10] = [
@@ -147,7 +151,7 @@ fn name_stack_pointer(all: &mut Situations, name: &str, kind: u8) {
 }
 
 fn name_registers(all: &mut Situations, name: &str, kind: u8) {
-    let registers: [(&str, fn(Flat) -> bool); 6] = [
+    let registers: [(&str, Has); 6] = [
         ("base 31 and offset 31", |own| {
             own.base == 31 && own.offset_register == 31
         }),
@@ -176,7 +180,7 @@ fn name_registers(all: &mut Situations, name: &str, kind: u8) {
 /// Inactive elements of a load that were not zero and are after it: before,
 /// between and after the active ones, and all.
 fn name_zeroed(all: &mut Situations) {
-    let places: [(&str, fn(&View, usize) -> bool); 4] = [
+    let places: [(&str, HoldsAt); 4] = [
         ("before the active ones", |v, e| {
             v.active.first().is_some_and(|first| e < *first)
         }),
