@@ -32,7 +32,7 @@ pub enum Refusal {
 
 impl Refusal {
     /// The answer's number.
-    pub fn number(self) -> u32 {
+    pub const fn number(self) -> u32 {
         match self {
             Refusal::BadSettings => 1,
             Refusal::BadLengths => 2,
@@ -65,7 +65,7 @@ impl Refusal {
     /// assert_eq!(Refusal::of_number(7, 64), Some(Refusal::OutsideMemory { address: 64 }));
     /// assert_eq!(Refusal::of_number(0, 0), None);
     /// ```
-    pub fn of_number(number: u32, address: u64) -> Option<Refusal> {
+    pub const fn of_number(number: u32, address: u64) -> Option<Refusal> {
         Some(match number {
             1 => Refusal::BadSettings,
             2 => Refusal::BadLengths,

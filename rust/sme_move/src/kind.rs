@@ -34,7 +34,7 @@ pub enum Kind {
 
 impl Kind {
     /// The number that the C interface has for it.
-    pub fn number(self) -> u8 {
+    pub const fn number(self) -> u8 {
         match self {
             Kind::MovaToTile => 1,
             Kind::MovazFromTile => 2,
@@ -47,7 +47,7 @@ impl Kind {
     }
 
     /// The kind of a number, if there is one.
-    pub fn of_number(number: u8) -> Option<Kind> {
+    pub const fn of_number(number: u8) -> Option<Kind> {
         Some(match number {
             1 => Kind::MovaToTile,
             2 => Kind::MovazFromTile,
