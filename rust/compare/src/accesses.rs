@@ -1,7 +1,9 @@
 //! How many loads and stores were done, and how many were refused as only
 //! they are.
 
+use crate::names::FAULT;
 use crate::view::View;
+use sme_move::Refusal;
 use std::fmt::{self, Display, Formatter};
 
 /// Counts of cases whose word is a load or store.
@@ -25,8 +27,8 @@ impl Accesses {
         }
         let later = view.fault().is_some_and(|(_, byte)| byte > 0);
         self.done += u64::from(view.done());
-        self.misaligned += u64::from(view.answer == 6);
-        self.outside += u64::from(view.answer == 7);
+        self.misaligned += u64::from(view.refused(Refusal::StackMisaligned));
+        self.outside += u64::from(view.refused(FAULT));
         self.later_byte += u64::from(later);
     }
 

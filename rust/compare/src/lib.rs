@@ -12,6 +12,7 @@ pub mod counts;
 pub mod difference;
 pub mod exhaustive;
 pub mod generate;
+pub mod names;
 pub mod rows;
 pub mod run;
 pub mod situations;

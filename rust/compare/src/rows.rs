@@ -1,6 +1,6 @@
 //! The rows of the table of words, and those of them that a run draws from.
 
-use second::flat;
+use crate::names::{is_access, Named};
 use second::inputs::rows::{Row, ROWS};
 use std::fmt::{self, Display, Formatter};
 use std::ops::Range;
@@ -57,7 +57,7 @@ impl Drawn {
 
     /// Whether loads or stores are drawn.
     pub fn has_access(self) -> bool {
-        self.has_row(|row| is_access(row.kind))
+        self.has_row(|row| is_access(row.kind()))
     }
 }
 
@@ -69,11 +69,6 @@ impl Display for Drawn {
             Drawn::Request2 => write!(f, "words of request 2"),
         }
     }
-}
-
-/// Whether a kind goes to memory.
-pub fn is_access(kind: u8) -> bool {
-    [flat::STORE, flat::LOAD].contains(&kind)
 }
 
 /// The row that the word belongs to, whatever the level.

@@ -1,8 +1,10 @@
 //! How often each answer was given, by encoding and vector length.
 
 use crate::case::Case;
-use crate::rows::{encoding, is_access, Drawn, NO_ENCODING, TABLE};
+use crate::names::{is_access, Named, FAULT};
+use crate::rows::{encoding, Drawn, NO_ENCODING, TABLE};
 use second::execute::VECTOR_LENGTHS;
+use sme_move::Refusal;
 use std::fmt::{self, Display, Formatter};
 
 /// The encodings, in the order of the table of words, and the words without
@@ -40,7 +42,9 @@ pub(crate) const NAMES: [&str; NO_ENCODING + 1] = [
     "no encoding",
 ];
 /// The answers of execution, 0 to 7.
-const ANSWERS: usize = 8;
+const ANSWERS: usize = FAULT.number() as usize + 1;
+/// The one that a vector length which is none of the five gets.
+const BAD_SETTINGS: usize = Refusal::BadSettings.number() as usize;
 
 /// Counts by encoding, vector length and answer, of cases that are drawn
 /// from some rows.
@@ -75,7 +79,7 @@ impl Table {
             (Some(length), answer) if drawn && answer < ANSWERS => {
                 self.counts[row][length][answer] += 1;
             }
-            (None, 1) if drawn => self.other_length[row] += 1,
+            (None, BAD_SETTINGS) if drawn => self.other_length[row] += 1,
             _ => self.strange.push(format!(
                 "{}, vector length {given}: answer {answer}",
                 NAMES[row]
@@ -144,7 +148,7 @@ impl Table {
     /// How many cases had this answer.
     pub fn answered(&self, answer: usize) -> u64 {
         let lines = self.counts.iter().flatten();
-        let apart = if answer == 1 {
+        let apart = if answer == BAD_SETTINGS {
             self.other_length.iter().sum()
         } else {
             0
@@ -168,9 +172,11 @@ impl Table {
 /// only, 0 and what comes after decoding only to a word with an encoding.
 /// Every encoding has a level below its own, so that 3 can occur to each.
 fn can_occur(row: usize, answer: usize) -> bool {
-    match answer {
-        1..=3 => true,
-        6 | 7 => TABLE.get(row).is_some_and(|own| is_access(own.kind)),
+    match Refusal::of_number(answer as u32, 0) {
+        Some(Refusal::BadSettings | Refusal::BadLengths | Refusal::Undecodable) => true,
+        Some(Refusal::StackMisaligned | Refusal::OutsideMemory { .. }) => {
+            TABLE.get(row).is_some_and(|own| is_access(own.kind()))
+        }
         _ => row != NO_ENCODING,
     }
 }

@@ -6,13 +6,14 @@ use crate::counts::Counts;
 use crate::exhaustive::arguments as exhaustive;
 use crate::exhaustive::progress;
 use crate::generate::generate;
-use crate::rows::{encoding, is_access, Drawn, NO_ENCODING, OF_DOCUMENT, TABLE};
+use crate::names::{self, is_access, Named};
+use crate::rows::{encoding, Drawn, NO_ENCODING, OF_DOCUMENT, TABLE};
 use crate::table::{Table, NAMES};
 use crate::worked;
 use second::execute::Mistake;
-use second::flat;
 use second::inputs::random::Random;
 use second::inputs::rows::Row;
+use sme_move::Kind;
 use std::ffi::OsString;
 use std::time::Duration;
 
@@ -167,7 +168,7 @@ fn share(counts: &[usize]) -> usize {
 fn every_row_has_its_share() {
     let counts = counts_of_rows(Drawn::All);
     let (accesses, moves): (Vec<usize>, Vec<usize>) =
-        (0..NO_ENCODING).partition(|&row| is_access(TABLE[row].kind));
+        (0..NO_ENCODING).partition(|&row| is_access(TABLE[row].kind()));
     let [accesses, moves] = [accesses, moves].map(|rows| {
         let counts: Vec<usize> = rows.into_iter().map(|row| counts[row]).collect();
         share(&counts)
@@ -192,15 +193,7 @@ fn every_row_of_a_request_has_its_share() {
 
 /// What a row of the table of words is called.
 fn name(row: &Row) -> String {
-    let kind = match row.kind {
-        flat::MOVA_TO_TILE => "move to tile",
-        flat::MOVAZ_FROM_TILE => "move and zero from tile",
-        flat::MOVA_ARRAY => "move from array",
-        flat::MOVAZ_ARRAY => "move and zero from array",
-        flat::MOVA_FROM_TILE => "move from tile",
-        flat::STORE => "store",
-        _ => "load",
-    };
+    let kind = names::name(row.kind());
     match row.vectors {
         0 | 1 => format!("{kind}, m={}", row.element_bytes),
         2 => format!("{kind}, two"),
@@ -214,9 +207,9 @@ fn rows_have_their_names() {
 }
 
 /// Kind, element bytes and number of vector registers of the rows.
-fn shapes(drawn: Drawn) -> Vec<(u8, u8, u8)> {
+fn shapes(drawn: Drawn) -> Vec<(Kind, u8, u8)> {
     let rows = TABLE[drawn.rows()].iter();
-    let shape = |row: &Row| (row.kind, row.element_bytes, row.vectors);
+    let shape = |row: &Row| (row.kind(), row.element_bytes, row.vectors);
     rows.map(shape).collect()
 }
 
@@ -224,16 +217,16 @@ fn shapes(drawn: Drawn) -> Vec<(u8, u8, u8)> {
 /// from a tile and two of the array, request 2 loads and the other stores.
 #[test]
 fn rows_of_requests_come_after_those_of_the_document() {
-    assert_eq!(shapes(Drawn::All)[OF_DOCUMENT - 1], (flat::STORE, 1, 0));
+    assert_eq!(shapes(Drawn::All)[OF_DOCUMENT - 1], (Kind::St1, 1, 0));
     assert_eq!(Drawn::Request1.rows().start, OF_DOCUMENT);
     assert_eq!(Drawn::Request1.rows().end, Drawn::Request2.rows().start);
     assert_eq!(Drawn::Request2.rows().end, TABLE.len());
     let sizes = [1, 2, 4, 8, 16];
-    let from_tile = sizes.map(|m| (flat::MOVA_FROM_TILE, m, 1));
-    let array = [(flat::MOVA_ARRAY, 0, 2), (flat::MOVAZ_ARRAY, 0, 4)];
+    let from_tile = sizes.map(|m| (Kind::MovaFromTile, m, 1));
+    let array = [(Kind::MovaFromArray, 0, 2), (Kind::MovazFromArray, 0, 4)];
     assert_eq!(shapes(Drawn::Request1), [&from_tile[..], &array].concat());
-    let stores = sizes.map(|m| (flat::STORE, m, 0));
-    let loads = sizes.map(|m| (flat::LOAD, m, 0));
+    let stores = sizes.map(|m| (Kind::St1, m, 0));
+    let loads = sizes.map(|m| (Kind::Ld1, m, 0));
     assert_eq!(shapes(Drawn::Request2), [&stores[1..], &loads].concat());
 }
 

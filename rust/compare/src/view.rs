@@ -1,9 +1,10 @@
 //! What a case looks like from outside, for counting and for printing.
 
 use crate::case::{Case, Outcome};
-use crate::rows::is_access;
+use crate::names::{self, is_access, is_array, is_predicated, Answer, Named, FAULT};
 use second::decode::decode;
-use second::flat::{self, Flat};
+use second::flat::Flat;
+use sme_move::{Direction, Refusal};
 use std::ops::Range;
 
 /// Addresses wrap here.
@@ -12,7 +13,8 @@ const ADDRESSES: u128 = 1 << 64;
 /// A case, its answer, and some numbers worked out of it.
 pub struct View<'a> {
     pub case: &'a Case,
-    pub answer: u32,
+    /// The answer's number.
+    answer: u32,
     pub address: u64,
     /// The buffers after the call.
     pub after: &'a Outcome,
@@ -35,8 +37,17 @@ impl<'a> View<'a> {
         }
     }
 
+    /// Whether this is the answer, whatever address goes with it.
+    pub fn answered(&self, answer: Answer) -> bool {
+        self.answer == names::number(answer)
+    }
+
     pub fn done(&self) -> bool {
-        self.answer == 0
+        self.answered(Ok(()))
+    }
+
+    pub fn refused(&self, refusal: Refusal) -> bool {
+        self.answered(Err(refusal))
     }
 
     pub fn vector_bytes(&self) -> u64 {
@@ -45,12 +56,12 @@ impl<'a> View<'a> {
 
     /// The operation, if it is a load or store.
     pub fn access(&self) -> Option<Flat> {
-        self.operation.filter(|own| is_access(own.kind))
+        self.operation.filter(|own| is_access(own.kind()))
     }
 
     /// Whether the operation has a governing predicate.
     pub fn predicated(&self) -> bool {
-        self.operation.is_some_and(|own| predicated(&own))
+        self.operation.is_some_and(|own| is_predicated(own.kind()))
     }
 
     /// The bytes of the governing predicate.
@@ -80,10 +91,9 @@ impl<'a> View<'a> {
     pub fn place(&self, own: &Flat, e: usize) -> Range<usize> {
         let m = usize::from(own.element_bytes);
         let slice = self.number() as usize;
-        let (row, column) = if own.direction == 1 {
-            (e, slice)
-        } else {
-            (slice, e)
+        let (row, column) = match names::direction(own) {
+            Direction::Horizontal => (slice, e),
+            Direction::Vertical => (e, slice),
         };
         let vector = row * m + usize::from(own.tile);
         let first = vector * self.vector_bytes() as usize + column * m;
@@ -159,7 +169,7 @@ impl<'a> View<'a> {
     /// The element that answer 7 tells of, and the number of its byte whose
     /// address it carries.
     pub fn fault(&self) -> Option<(usize, u128)> {
-        if self.answer != 7 {
+        if !self.refused(FAULT) {
             return None;
         }
         let from_start = (u128::from(self.address) + ADDRESSES - self.start()) % ADDRESSES;
@@ -190,17 +200,11 @@ impl<'a> View<'a> {
 
 /// By what the vector length is divided to give the modulus of the index.
 fn parts(operation: &Flat) -> u64 {
-    let array = [flat::MOVA_ARRAY, flat::MOVAZ_ARRAY].contains(&operation.kind);
-    u64::from(if array {
+    u64::from(if is_array(operation.kind()) {
         operation.vectors
     } else {
         operation.element_bytes
     })
-}
-
-fn predicated(operation: &Flat) -> bool {
-    let tile_moves = [flat::MOVA_TO_TILE, flat::MOVA_FROM_TILE];
-    tile_moves.contains(&operation.kind) || is_access(operation.kind)
 }
 
 /// The bytes of a predicate register, or none where P is too short.
@@ -212,7 +216,7 @@ fn predicate(case: &Case, register: u8) -> &[u8] {
 
 /// The active elements: bit e*m of the predicate (document 01, section 3).
 fn active(case: &Case, operation: &Flat) -> Vec<usize> {
-    if !predicated(operation) {
+    if !is_predicated(operation.kind()) {
         return Vec::new();
     }
     let m = usize::from(operation.element_bytes);

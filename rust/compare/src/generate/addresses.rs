@@ -6,8 +6,10 @@ use super::memory::BORDERS;
 use super::predicates;
 use super::registers::value;
 use crate::case::Case;
+use crate::names::FAULT;
 use second::flat::Flat;
 use second::inputs::random::Random;
+use sme_move::Refusal;
 
 /// The number with two meanings.
 const THIRTY_ONE: usize = 31;
@@ -35,17 +37,18 @@ impl Span {
 /// Sets the registers so that the access is done or refused, as the causes
 /// say.
 pub fn set(random: &mut Random, case: &mut Case, operation: &Flat, causes: &Causes) {
-    let refused = causes.has(6) || causes.has(7);
+    let misaligned = causes.has(Refusal::StackMisaligned);
+    let refused = misaligned || causes.has(FAULT);
     fit_predicate(random, case, operation, refused);
     let span = span(predicates::register(case, operation), operation);
     let start = match span {
         None => value(random),
-        Some(span) if causes.has(7) => outside(random, case, span),
+        Some(span) if causes.has(FAULT) => outside(random, case, span),
         Some(span) => inside(random, case, span),
     };
     let aligned = match span {
         None => random.chance(1, 2),
-        Some(_) => !causes.has(6),
+        Some(_) => !misaligned,
     };
     set_registers(random, case, operation, start, aligned);
 }

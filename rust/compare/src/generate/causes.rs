@@ -2,13 +2,14 @@
 
 use crate::rows::Drawn;
 use second::inputs::random::Random;
+use sme_move::Refusal;
 
 /// How many of a hundred cases are aimed at each answer. More than half are
 /// to be done, as only those move anything.
 const SHARES: [usize; 8] = [60, 6, 6, 8, 4, 4, 4, 8];
 
 /// The lowest answer that only loads and stores are given.
-const ACCESSES_ONLY: usize = 6;
+const ACCESSES_ONLY: usize = Refusal::StackMisaligned.number() as usize;
 
 /// The causes by their numbers; no cause is no refusal.
 pub struct Causes {
@@ -35,8 +36,8 @@ impl Causes {
         Causes { present }
     }
 
-    pub fn has(&self, number: usize) -> bool {
-        self.present[number]
+    pub fn has(&self, refusal: Refusal) -> bool {
+        self.present[refusal.number() as usize]
     }
 
     /// Whether the lowest cause is one that only loads and stores have.

@@ -1,7 +1,7 @@
 //! Where memory stands and how long it is.
 
 use crate::case::Case;
-use crate::rows::is_access;
+use crate::names::{is_access, Named};
 use second::flat::Flat;
 use second::inputs::random::Random;
 
@@ -19,7 +19,7 @@ pub const BORDERS: [usize; 2] = [1 << 12, 1 << 16];
 
 /// A length: mostly a short one, sometimes a long one.
 pub fn length(random: &mut Random, vector_bytes: usize, operation: &Flat) -> usize {
-    let one_in = if is_access(operation.kind) {
+    let one_in = if is_access(operation.kind()) {
         ONE_ACCESS_IN
     } else {
         ONE_MOVE_IN

@@ -13,10 +13,12 @@ pub mod settings;
 mod words;
 
 use crate::case::Case;
-use crate::rows::{is_access, Drawn};
+use crate::names::{is_access, Named};
+use crate::rows::Drawn;
 use causes::Causes;
 use second::flat::Flat;
 use second::inputs::random::Random;
+use sme_move::Refusal;
 
 /// Fills `case` anew, with a word of one of the rows that are drawn from or,
 /// where it is to be undecodable, one that may fit no row.
@@ -30,7 +32,7 @@ pub fn generate(random: &mut Random, case: &mut Case, drawn: Drawn) {
     fill(random, case, &operation);
     predicates::set(random, case, &operation);
     registers::set_index(random, case, &operation);
-    if is_access(operation.kind) {
+    if is_access(operation.kind()) {
         addresses::set(random, case, &operation, &causes);
     }
     spoil(random, case, row.level, &causes);
@@ -60,19 +62,19 @@ fn fill_bytes(random: &mut Random, bytes: &mut Vec<u8>, length: usize) {
 /// that they are also wrong by one from what a refused vector length would
 /// fix.
 fn spoil(random: &mut Random, case: &mut Case, level: u8, causes: &Causes) {
-    if causes.has(5) {
+    if causes.has(Refusal::ZaOff) {
         case.settings.za_on = false;
     }
-    if causes.has(4) {
+    if causes.has(Refusal::StreamingOff) {
         case.settings.streaming = false;
     }
-    if causes.has(3) {
+    if causes.has(Refusal::Undecodable) {
         words::spoil(random, case, level);
     }
-    if causes.has(2) {
+    if causes.has(Refusal::BadLengths) {
         lengths::spoil(random, case);
     }
-    if causes.has(1) {
+    if causes.has(Refusal::BadSettings) {
         settings::spoil(random, case);
     }
 }

@@ -2,11 +2,13 @@
 
 use super::causes::Causes;
 use crate::case::Case;
-use crate::rows::{encoding, is_access, Drawn, TABLE};
+use crate::names::{is_access, Named};
+use crate::rows::{encoding, Drawn, TABLE};
 use second::flat::place;
 use second::inputs::random::Random;
 use second::inputs::rows::Row;
 use second::inputs::words::NEIGHBOURS;
+use sme_move::Refusal;
 
 /// A row, each with the same share; of loads and stores alone, where only
 /// they have the cause.
@@ -14,7 +16,7 @@ pub fn row(random: &mut Random, causes: &Causes, drawn: Drawn) -> &'static Row {
     let rows = &TABLE[drawn.rows()];
     loop {
         let row = &rows[random.below(rows.len())];
-        if is_access(row.kind) || !causes.needs_access() {
+        if is_access(row.kind()) || !causes.needs_access() {
             return row;
         }
     }
@@ -28,7 +30,7 @@ pub fn fields(random: &mut Random, row: &Row, causes: &Causes) -> Vec<u32> {
     for (field, own) in row.fields.iter().zip(&mut bits) {
         let base = field.place == place::BASE;
         let register = base || field.place == place::OFFSET_REGISTER;
-        if (base && causes.has(6)) || (register && random.chance(1, 4)) {
+        if (base && causes.has(Refusal::StackMisaligned)) || (register && random.chance(1, 4)) {
             *own = field.top();
         }
     }

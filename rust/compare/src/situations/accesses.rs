@@ -2,12 +2,16 @@
 //! and the two meanings of number 31.
 
 use super::Situations;
+use crate::names::{self, Answer, Named, ACCESSES, FAULT, WAYS};
 use crate::rows::Drawn;
 use crate::view::View;
-use second::flat::{self, Flat};
+use second::flat::Flat;
+use sme_move::{Kind, Refusal};
 
 /// One past the last address.
 const ADDRESSES: u128 = 1 << 64;
+
+const MISALIGNED: Answer = Err(Refusal::StackMisaligned);
 
 /// A test of a case that has the load or store in question.
 type Holds = fn(&View) -> bool;
@@ -78,48 +82,49 @@ const FAULTS_OF_WIDE: [(&str, Holds); 4] = [
 ];
 
 pub fn name(all: &mut Situations, drawn: Drawn) {
-    for (name, kind) in [("store", flat::STORE), ("load", flat::LOAD)] {
-        if !drawn.has_row(|row| row.kind == kind) {
+    for kind in ACCESSES {
+        if !drawn.has_row(|row| row.kind() == kind) {
             continue;
         }
+        let name = names::name(kind);
         for m in [1, 2, 4, 8, 16] {
-            if drawn.has_row(|row| row.kind == kind && row.element_bytes == m) {
+            if drawn.has_row(|row| row.kind() == kind && row.element_bytes == m) {
                 name_sized(all, &format!("{name}, m={m}"), kind, m);
             }
         }
         name_stack_pointer(all, name, kind);
         name_registers(all, name, kind);
     }
-    if drawn.has_row(|row| row.kind == flat::LOAD) {
+    if drawn.has_row(|row| row.kind() == Kind::Ld1) {
         name_zeroed(all);
     }
 }
 
 /// A load or store of one size.
-fn name_sized(all: &mut Situations, name: &str, kind: u8, m: u8) {
-    let own = move |v: &View, answer: u32| {
-        let sized = |own: Flat| own.kind == kind && own.element_bytes == m;
-        v.answer == answer && v.access().is_some_and(sized)
+fn name_sized(all: &mut Situations, name: &str, kind: Kind, m: u8) {
+    let own = move |v: &View, answer: Answer| {
+        let sized = |own: Flat| own.kind() == kind && own.element_bytes == m;
+        v.answered(answer) && v.access().is_some_and(sized)
     };
     for (what, holds) in DONE {
         all.name(format!("{name}, done, {what}"), move |v| {
-            own(v, 0) && holds(v)
+            own(v, Ok(())) && holds(v)
         });
     }
-    all.name(format!("{name}, 6"), move |v| own(v, 6));
+    all.name(format!("{name}, 6"), move |v| own(v, MISALIGNED));
     for (what, holds) in FAULTS {
         all.name(format!("{name}, fault, {what}"), move |v| {
-            own(v, 7) && holds(v)
+            own(v, Err(FAULT)) && holds(v)
         });
     }
     if m > 1 {
         for (what, holds) in FAULTS_OF_WIDE {
             all.name(format!("{name}, fault, {what}"), move |v| {
-                own(v, 7) && holds(v)
+                own(v, Err(FAULT)) && holds(v)
             });
         }
         all.name(format!("{name}, done, offset times m wraps"), move |v| {
-            own(v, 0) && !v.active.is_empty() && v.product() >= ADDRESSES
+            own(v, Ok(())) && !v.active.is_empty() && v.product() >= ADDRESSES
         });
     }
 }
@@ -133,24 +138,24 @@ fn over_the_last_address(v: &View) -> bool {
     })
 }
 
-fn name_stack_pointer(all: &mut Situations, name: &str, kind: u8) {
+fn name_stack_pointer(all: &mut Situations, name: &str, kind: Kind) {
     let kinds = [
-        ("aligned, an active element, done", true, true, 0),
-        ("aligned, an active element, fault", true, true, 7),
-        ("aligned, no active element, done", true, false, 0),
-        ("not aligned, an active element, 6", false, true, 6),
-        ("not aligned, no active element, done", false, false, 0),
+        ("aligned, an active element, done", true, true, Ok(())),
+        ("aligned, an active element, fault", true, true, Err(FAULT)),
+        ("aligned, no active element, done", true, false, Ok(())),
+        ("not aligned, an active element, 6", false, true, MISALIGNED),
+        ("not aligned, no active element, done", false, false, Ok(())),
     ];
     for (what, aligned, active, answer) in kinds {
         all.name(format!("{name}, stack pointer {what}"), move |v| {
-            let own = |own: Flat| own.kind == kind && own.base == 31;
+            let own = |own: Flat| own.kind() == kind && own.base == 31;
             let active = v.active.is_empty() != active;
-            v.access().is_some_and(own) && v.aligned() == aligned && active && v.answer == answer
+            v.access().is_some_and(own) && v.aligned() == aligned && active && v.answered(answer)
         });
     }
 }
 
-fn name_registers(all: &mut Situations, name: &str, kind: u8) {
+fn name_registers(all: &mut Situations, name: &str, kind: Kind) {
     let registers: [(&str, Has); 6] = [
         ("base 31 and offset 31", |own| {
             own.base == 31 && own.offset_register == 31
@@ -171,7 +176,7 @@ fn name_registers(all: &mut Situations, name: &str, kind: u8) {
     ];
     for (what, holds) in registers {
         all.name(format!("{name}, done, {what}"), move |v| {
-            let own = |own: Flat| own.kind == kind && holds(own);
+            let own = |own: Flat| own.kind() == kind && holds(own);
             v.done() && !v.active.is_empty() && v.access().is_some_and(own)
         });
     }
@@ -192,14 +197,14 @@ fn name_zeroed(all: &mut Situations) {
         }),
         ("with none active", |v, _| v.active.is_empty()),
     ];
-    for (direction, way) in [(0, "horizontal"), (1, "vertical")] {
+    for (direction, way) in WAYS {
         for (what, place) in places {
             for m in [1, 2, 4, 8, 16] {
                 let name = format!("load, m={m}, done, {way}, an element zeroed {what}");
                 all.name(name, move |v| {
-                    let own = |own: &Flat| own.kind == flat::LOAD && own.element_bytes == m;
+                    let own = |own: &Flat| own.kind() == Kind::Ld1 && own.element_bytes == m;
                     let own = v.operation.filter(|_| v.done()).filter(own);
-                    own.filter(|own| own.direction == direction)
+                    own.filter(|own| names::direction(own) == direction)
                         .is_some_and(|own| zeroed(v, &own).any(|e| place(v, e)))
                 });
             }

@@ -2,6 +2,7 @@
 
 use super::Situations;
 use crate::view::View;
+use sme_move::Refusal;
 
 /// The buffers whose length the vector length fixes, and that length.
 const FIXED: [(&str, Length, Length); 4] = [
@@ -20,13 +21,13 @@ type Length = fn(&View) -> u64;
 pub fn name(all: &mut Situations) {
     for (buffer, own, right) in FIXED {
         all.name(format!("{buffer} one too short, 2"), move |v| {
-            v.answer == 2 && own(v) + 1 == right(v)
+            v.refused(Refusal::BadLengths) && own(v) + 1 == right(v)
         });
         all.name(format!("{buffer} one too long, 2"), move |v| {
-            v.answer == 2 && own(v) == right(v) + 1
+            v.refused(Refusal::BadLengths) && own(v) == right(v) + 1
         });
         all.name(format!("{buffer} empty, 2"), move |v| {
-            v.answer == 2 && own(v) == 0
+            v.refused(Refusal::BadLengths) && own(v) == 0
         });
     }
     name_memory_ends(all);
@@ -41,7 +42,7 @@ fn name_memory_ends(all: &mut Situations) {
         v.done() && v.memory_end() == LAST
     });
     all.name("memory ends at 2^64 + 1, only that wrong, 2", |v| {
-        v.answer == 2 && v.memory_end() == LAST + 1 && fixed_lengths(v)
+        v.refused(Refusal::BadLengths) && v.memory_end() == LAST + 1 && fixed_lengths(v)
     });
 }
 

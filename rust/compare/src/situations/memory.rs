@@ -3,9 +3,11 @@
 
 use super::buffers::fixed_lengths;
 use super::Situations;
-use crate::rows::{is_access, Drawn};
+use crate::names::{self, is_access, Answer, Named, ACCESSES, FAULT, WAYS};
+use crate::rows::Drawn;
 use crate::view::View;
-use second::flat::{self, Flat};
+use second::flat::Flat;
+use sme_move::{Kind, Refusal};
 use std::ops::RangeInclusive;
 
 /// A test of a case that has the load or store in question, done or refused
@@ -62,18 +64,19 @@ const FAULTS: [(&str, Holds); 3] = [
 ];
 
 pub fn name(all: &mut Situations, drawn: Drawn) {
-    for (name, kind) in [("store", flat::STORE), ("load", flat::LOAD)] {
+    for kind in ACCESSES {
+        let name = names::name(kind);
         for m in [1, 2, 4, 8, 16] {
-            if drawn.has_row(|row| row.kind == kind && row.element_bytes == m) {
+            if drawn.has_row(|row| row.kind() == kind && row.element_bytes == m) {
                 name_lengths(all, &format!("{name}, m={m}"), kind, m);
             }
         }
-        if drawn.has_row(|row| row.kind == kind) {
+        if drawn.has_row(|row| row.kind() == kind) {
             name_places(all, name, kind);
             name_ways(all, name, kind);
         }
     }
-    if drawn.has_row(|row| !is_access(row.kind)) {
+    if drawn.has_row(|row| !is_access(row.kind())) {
         name_moves(all);
     }
     name_ends(all);
@@ -81,12 +84,12 @@ pub fn name(all: &mut Situations, drawn: Drawn) {
 
 /// A load or store of one size, done and refused with 7, by the length of
 /// memory; and done where a byte's number has more than 16 bits.
-fn name_lengths(all: &mut Situations, name: &str, kind: u8, m: u8) {
-    let own = move |v: &View, answer: u32| {
+fn name_lengths(all: &mut Situations, name: &str, kind: Kind, m: u8) {
+    let own = move |v: &View, answer: Answer| {
         answered(v, kind, answer) && v.access().is_some_and(|own| own.element_bytes == m)
     };
     for (length, bytes) in LENGTHS {
-        for (what, answer) in [("done", 0), ("fault", 7)] {
+        for (what, answer) in [("done", Ok(())), ("fault", Err(FAULT))] {
             let bytes = bytes.clone();
             let name = format!("{name}, {what}, memory of {length}");
             all.name(name, move |v| {
@@ -96,36 +99,36 @@ fn name_lengths(all: &mut Situations, name: &str, kind: u8, m: u8) {
     }
     let name = format!("{name}, done, from byte 65,536 of memory on");
     all.name(name, move |v| {
-        over_64_kib(v) && own(v, 0) && first_byte(v) >= FARTHER
+        over_64_kib(v) && own(v, Ok(())) && first_byte(v) >= FARTHER
     });
 }
 
-fn name_places(all: &mut Situations, name: &str, kind: u8) {
+fn name_places(all: &mut Situations, name: &str, kind: Kind) {
     for (what, holds) in DONE {
         let name = format!("{name}, done, memory of over 64 KiB, {what}");
         all.name(name, move |v| {
-            over_64_kib(v) && answered(v, kind, 0) && holds(v)
+            over_64_kib(v) && answered(v, kind, Ok(())) && holds(v)
         });
     }
     for (what, holds) in FAULTS {
         let name = format!("{name}, fault, memory of over 64 KiB, {what}");
         all.name(name, move |v| {
-            over_64_kib(v) && answered(v, kind, 7) && holds(v)
+            over_64_kib(v) && answered(v, kind, Err(FAULT)) && holds(v)
         });
     }
 }
 
 /// Both directions, with all elements active and with some.
-fn name_ways(all: &mut Situations, name: &str, kind: u8) {
-    for (direction, way) in [(0, "horizontal"), (1, "vertical")] {
+fn name_ways(all: &mut Situations, name: &str, kind: Kind) {
+    for (direction, way) in WAYS {
         for (whole, active) in [(true, "all"), (false, "some")] {
             let name = format!(
                 "{name}, done, {way}, {active} elements active, from byte 65,536 of memory on"
             );
             all.name(name, move |v| {
-                let own = |own: Flat| own.direction == direction;
+                let own = |own: Flat| names::direction(&own) == direction;
                 over_64_kib(v)
-                    && answered(v, kind, 0)
+                    && answered(v, kind, Ok(()))
                     && v.access().is_some_and(own)
                     && (v.active.len() as u64 == v.elements()) == whole
                     && first_byte(v) >= FARTHER
@@ -151,7 +154,10 @@ fn name_ends(all: &mut Situations) {
     });
     let name = "memory of over 64 KiB ends above 2^64, only that wrong, 2";
     all.name(name, |v| {
-        over_64_kib(v) && v.answer == 2 && v.memory_end() > ADDRESSES && fixed_lengths(v)
+        over_64_kib(v)
+            && v.refused(Refusal::BadLengths)
+            && v.memory_end() > ADDRESSES
+            && fixed_lengths(v)
     });
 }
 
@@ -160,8 +166,9 @@ fn over_64_kib(v: &View) -> bool {
 }
 
 /// Whether a load or store with an active element got this answer.
-fn answered(v: &View, kind: u8, answer: u32) -> bool {
-    v.answer == answer && !v.active.is_empty() && v.access().is_some_and(|own| own.kind == kind)
+fn answered(v: &View, kind: Kind, answer: Answer) -> bool {
+    let own = |own: Flat| own.kind() == kind;
+    v.answered(answer) && !v.active.is_empty() && v.access().is_some_and(own)
 }
 
 /// The number in memory of the first byte of a done load or store that is

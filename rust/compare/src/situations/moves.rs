@@ -2,9 +2,11 @@
 //! keep, where the bytes before would tell a mistake.
 
 use super::Situations;
+use crate::names::{self, Named, WAYS};
 use crate::rows::Drawn;
 use crate::view::View;
-use second::flat::{self, Flat};
+use second::flat::Flat;
+use sme_move::{Direction, Kind};
 
 /// An element of a move from a tile: the slice's bytes, and the register's
 /// before the call and after it.
@@ -28,31 +30,31 @@ impl Element<'_> {
 }
 
 pub fn name(all: &mut Situations, drawn: Drawn) {
-    if drawn.has_row(|row| row.kind == flat::MOVA_FROM_TILE) {
-        for (direction, way) in [(0, "horizontal"), (1, "vertical")] {
+    if drawn.has_row(|row| row.kind() == Kind::MovaFromTile) {
+        for (direction, way) in WAYS {
             name_from_tile(all, direction, way);
         }
     }
     let forms = [
-        ("move from array, two", flat::MOVA_ARRAY, 2),
-        ("move from array, four", flat::MOVA_ARRAY, 4),
-        ("move and zero from array, two", flat::MOVAZ_ARRAY, 2),
-        ("move and zero from array, four", flat::MOVAZ_ARRAY, 4),
+        ("move from array, two", Kind::MovaFromArray, 2),
+        ("move from array, four", Kind::MovaFromArray, 4),
+        ("move and zero from array, two", Kind::MovazFromArray, 2),
+        ("move and zero from array, four", Kind::MovazFromArray, 4),
     ];
     for (name, kind, vectors) in forms {
-        if drawn.has_row(|row| row.kind == kind && row.vectors == vectors) {
+        if drawn.has_row(|row| row.kind() == kind && row.vectors == vectors) {
             name_group(all, name, kind, vectors);
         }
     }
 }
 
 /// A move from a tile, by direction; with some elements active also by size.
-fn name_from_tile(all: &mut Situations, direction: u8, way: &str) {
+fn name_from_tile(all: &mut Situations, direction: Direction, way: &str) {
     let name = format!("done, move from tile, {way}");
     let own = move |v: &View| {
-        let from_tile = |own: &Flat| own.kind == flat::MOVA_FROM_TILE;
+        let from_tile = |own: &Flat| own.kind() == Kind::MovaFromTile;
         let done = v.operation.filter(|_| v.done());
-        done.filter(|own| from_tile(own) && own.direction == direction)
+        done.filter(|own| from_tile(own) && names::direction(own) == direction)
     };
     all.name(format!("{name}, all elements moved"), move |v| {
         own(v).is_some_and(|own| elements(v, &own).iter().all(Element::moved))
@@ -73,12 +75,12 @@ fn name_from_tile(all: &mut Situations, direction: u8, way: &str) {
 /// An array form: no vector of the group is zero before the call, and after
 /// it all are or all are as they were; and a group that reaches the end of
 /// the array.
-fn name_group(all: &mut Situations, name: &str, kind: u8, vectors: u8) {
+fn name_group(all: &mut Situations, name: &str, kind: Kind, vectors: u8) {
     let own = move |v: &View| {
-        let form = |own: Flat| own.kind == kind && own.vectors == vectors;
+        let form = |own: Flat| own.kind() == kind && own.vectors == vectors;
         v.done() && v.operation.is_some_and(form)
     };
-    let zeroes = kind == flat::MOVAZ_ARRAY;
+    let zeroes = kind == Kind::MovazFromArray;
     let then = if zeroes { "zero" } else { "as they were" };
     all.name(format!("done, {name}, vectors then {then}"), move |v| {
         let right = |(before, after): (&[u8], &[u8])| {

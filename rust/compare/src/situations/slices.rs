@@ -1,9 +1,11 @@
 //! Situations of the slice number and the governing predicate.
 
 use super::Situations;
+use crate::names::{self, Named, WAYS};
 use crate::rows::Drawn;
 use crate::view::View;
-use second::flat;
+use second::flat::Flat;
+use sme_move::Kind;
 
 pub fn name(all: &mut Situations, drawn: Drawn) {
     name_directions(all, drawn);
@@ -13,17 +15,18 @@ pub fn name(all: &mut Situations, drawn: Drawn) {
 
 fn name_directions(all: &mut Situations, drawn: Drawn) {
     let mut kinds = vec![
-        ("move to tile", flat::MOVA_TO_TILE),
-        ("move and zero from tile", flat::MOVAZ_FROM_TILE),
-        ("store", flat::STORE),
-        ("move from tile", flat::MOVA_FROM_TILE),
-        ("load", flat::LOAD),
+        Kind::MovaToTile,
+        Kind::MovazFromTile,
+        Kind::St1,
+        Kind::MovaFromTile,
+        Kind::Ld1,
     ];
-    kinds.retain(|&(_, kind)| drawn.has_row(|row| row.kind == kind));
-    for (name, kind) in kinds {
-        for (direction, way) in [(0, "horizontal"), (1, "vertical")] {
+    kinds.retain(|&kind| drawn.has_row(|row| row.kind() == kind));
+    for kind in kinds {
+        for (direction, way) in WAYS {
+            let name = names::name(kind);
             all.name(format!("done, {name}, {way}"), move |v| {
-                let own = |own: flat::Flat| own.kind == kind && own.direction == direction;
+                let own = |own: Flat| own.kind() == kind && names::direction(&own) == direction;
                 v.done() && v.operation.is_some_and(own)
             });
         }

@@ -1,11 +1,13 @@
 //! How often each answer was given, and for which cause 16 was.
 
 use super::call::Call;
-use super::rules::{Cause, Verdict, BAD_HELD, BAD_SIZE, NONE_FREE};
+use super::rules::{Cause, Verdict};
 use super::sets::SETS;
 use crate::counts::no_complaints;
 use crate::exhaustive::blocks::Sum;
+use crate::names::{number, Answer};
 use second::held::ELEMENT_BYTES;
+use sme_move::Refusal;
 use std::fmt::{self, Display, Formatter};
 
 /// Below this many random arrays, a cell may be empty by chance.
@@ -13,7 +15,12 @@ const ENOUGH: u64 = 20_000;
 /// The calls, in the order of the counts.
 const CALLS: [&str; 2] = ["taking", "giving up"];
 /// The answers that there are.
-const ANSWERS: [u32; 4] = [0, BAD_SIZE, NONE_FREE, BAD_HELD];
+const ANSWERS: [Answer; 4] = [
+    Ok(()),
+    Err(Refusal::OutOfRange),
+    Err(Refusal::NoFreeTile),
+    Err(Refusal::BadHeld),
+];
 /// The five sizes, and all others.
 const SIZES: usize = ELEMENT_BYTES.len() + 1;
 
@@ -38,8 +45,8 @@ impl Counts {
         };
         let size = ELEMENT_BYTES.iter().position(|own| *own == bytes);
         let line = &mut self.answers[call][size.unwrap_or(ELEMENT_BYTES.len())];
-        for (count, answer) in line.iter_mut().zip(ANSWERS) {
-            *count += u64::from(answer == verdict.answer());
+        for (count, answer) in line.iter_mut().zip(&ANSWERS) {
+            *count += u64::from(number(*answer) == verdict.answer());
         }
         if let Verdict::Bad(cause) = verdict {
             self.causes[call][cause as usize] += 1;
@@ -71,7 +78,8 @@ impl Counts {
             for (size, line) in self.answers[call].iter().enumerate() {
                 for (&count, answer) in line.iter().zip(ANSWERS) {
                     if count == 0 && can_occur(call, size, answer) {
-                        missing.push(format!("{name}, size {}: no {answer}", size_name(size)));
+                        let (size, answer) = (size_name(size), number(answer));
+                        missing.push(format!("{name}, size {size}: no {answer}"));
                     }
                 }
             }
@@ -101,13 +109,13 @@ impl Sum for Counts {
 
 /// Which answers there can be: 8 to asked sizes that are none of the five and
 /// nothing else to these, and 16 alone to giving up such a size.
-fn can_occur(call: usize, size: usize, answer: u32) -> bool {
+fn can_occur(call: usize, size: usize, answer: Answer) -> bool {
     let taking = call == 0;
     let is_size = size < ELEMENT_BYTES.len();
     match answer {
-        BAD_SIZE => taking && !is_size,
-        NONE_FREE => taking && is_size,
-        BAD_HELD => !taking || is_size,
+        Err(Refusal::OutOfRange) => taking && !is_size,
+        Err(Refusal::NoFreeTile) => taking && is_size,
+        Err(Refusal::BadHeld) => !taking || is_size,
         _ => is_size,
     }
 }
@@ -121,7 +129,7 @@ impl Display for Counts {
     fn fmt(&self, f: &mut Formatter) -> fmt::Result {
         write!(f, "{:<30} {:>5}", "call", "size")?;
         for answer in ANSWERS {
-            write!(f, " {answer:>10}")?;
+            write!(f, " {:>10}", number(answer))?;
         }
         writeln!(f)?;
         for (call, name) in CALLS.iter().enumerate() {

@@ -1,10 +1,9 @@
 //! The two programs as the comparison sees them: arrays, and answers as
 //! numbers.
 
-use super::rules::{BAD_HELD, BAD_SIZE};
 use super::state::{held, put};
 use second::held::{give_up, take, HeldMistake, Tile, ELEMENT_BYTES};
-use sme_move::numbers;
+use sme_move::{numbers, Refusal};
 
 /// A program that takes tiles and gives them up. Tests have wrong ones.
 pub trait Keeper: Sync {
@@ -44,7 +43,7 @@ impl Keeper for Second {
         };
         match take(&mut held, element_bytes, self.mistake) {
             Err(refusal) => (u32::from(refusal.number()), 0),
-            Ok(_) if 2 * held.len() > tiles.len() => (BAD_HELD, 0),
+            Ok(_) if 2 * held.len() > tiles.len() => (Refusal::BadHeld.number(), 0),
             Ok(number) => {
                 write_back(tiles, count, &held);
                 (0, number)
@@ -54,7 +53,7 @@ impl Keeper for Second {
 
     fn give_up(&self, tiles: &mut [u64], count: &mut usize, tile: Tile) -> u32 {
         let Some(mut held) = list(tiles, *count) else {
-            return BAD_HELD;
+            return Refusal::BadHeld.number();
         };
         match give_up(&mut held, tile, self.mistake) {
             Err(refusal) => u32::from(refusal.number()),
@@ -70,9 +69,9 @@ impl Keeper for Second {
 /// count: an asked size that is none of the five goes first.
 pub fn answer_to_short_array(element_bytes: u64) -> u32 {
     if ELEMENT_BYTES.contains(&element_bytes) {
-        BAD_HELD
+        Refusal::BadHeld.number()
     } else {
-        BAD_SIZE
+        Refusal::OutOfRange.number()
     }
 }
 

@@ -5,13 +5,7 @@ use super::call::Call;
 use super::sets::{vectors, MOST};
 use super::state::State;
 use second::held::{Tile, ELEMENT_BYTES};
-
-/// An asked size that is none of the five.
-pub const BAD_SIZE: u32 = 8;
-/// No tile of the asked size is free.
-pub const NONE_FREE: u32 = 13;
-/// Any of the causes.
-pub const BAD_HELD: u32 = 16;
+use sme_move::Refusal;
 
 /// Why the answer is 16. Those up to `Several` are about the held tiles.
 #[derive(Clone, Copy, Debug, PartialEq, Eq)]
@@ -64,12 +58,13 @@ impl Verdict {
         verdict.unwrap_or_else(Verdict::Bad)
     }
 
+    /// The number of the answer.
     pub fn answer(self) -> u32 {
         match self {
             Verdict::Done => 0,
-            Verdict::BadSize => BAD_SIZE,
-            Verdict::NoneFree => NONE_FREE,
-            Verdict::Bad(_) => BAD_HELD,
+            Verdict::BadSize => Refusal::OutOfRange.number(),
+            Verdict::NoneFree => Refusal::NoFreeTile.number(),
+            Verdict::Bad(_) => Refusal::BadHeld.number(),
         }
     }
 }

@@ -3,6 +3,7 @@
 
 use super::{bytes, case, Worked};
 use crate::case::Case;
+use sme_move::Refusal;
 
 /// What makes a load a store.
 const STORE: u32 = 0x0020_0000;
@@ -25,7 +26,7 @@ struct Example {
 }
 
 enum Expected {
-    Refused(u32, u64),
+    Refused(Refusal),
     /// The bytes of an element; where each active one is, in ZA and in
     /// memory; and where in ZA the others are, which a load zeroes.
     Done {
@@ -33,6 +34,11 @@ enum Expected {
         moved: &'static [(usize, usize)],
         zeroed: &'static [usize],
     },
+}
+
+/// Refused for the byte at this address.
+const fn outside(address: u64) -> Expected {
+    Expected::Refused(Refusal::OutsideMemory { address })
 }
 
 const MINUS_4: u64 = u64::MAX - 3;
@@ -49,7 +55,7 @@ const EXAMPLES: [Example; 15] = [
         base: 0x2036,
         offset: 0,
         bits: &[0, 4, 8, 12],
-        expected: Expected::Refused(7, 0x2040),
+        expected: outside(0x2040),
     },
     Example {
         name: "the same without the elements outside",
@@ -74,7 +80,7 @@ const EXAMPLES: [Example; 15] = [
         base: 0x1FFD,
         offset: 0,
         bits: &[0, 8],
-        expected: Expected::Refused(7, 0x1FFD),
+        expected: outside(0x1FFD),
     },
     // Element 0 is at 2^64 - 4 and ends at address 3.
     Example {
@@ -85,7 +91,7 @@ const EXAMPLES: [Example; 15] = [
         base: MINUS_4,
         offset: 0,
         bits: &[0, 8],
-        expected: Expected::Refused(7, MINUS_4),
+        expected: outside(MINUS_4),
     },
     Example {
         name: "the same without it",
@@ -110,7 +116,7 @@ const EXAMPLES: [Example; 15] = [
         base: MINUS_12,
         offset: 0,
         bits: &[0, 8],
-        expected: Expected::Refused(7, 0),
+        expected: outside(0),
     },
     // Elements 1, 3, 5 and 7 are active; 5 is at 64, where memory ends.
     Example {
@@ -121,7 +127,7 @@ const EXAMPLES: [Example; 15] = [
         base: 54,
         offset: 0,
         bits: &[2, 6, 10, 14],
-        expected: Expected::Refused(7, 64),
+        expected: outside(64),
     },
     // 5 is at 63.
     Example {
@@ -132,7 +138,7 @@ const EXAMPLES: [Example; 15] = [
         base: 53,
         offset: 0,
         bits: &[2, 6, 10, 14],
-        expected: Expected::Refused(7, 64),
+        expected: outside(64),
     },
     Example {
         name: "byte 15 of an element",
@@ -142,7 +148,7 @@ const EXAMPLES: [Example; 15] = [
         base: 1,
         offset: 3,
         bits: &[0],
-        expected: Expected::Refused(7, 64),
+        expected: outside(64),
     },
     // Base and offset are number 31: the stack pointer and zero.
     Example {
@@ -167,7 +173,7 @@ const EXAMPLES: [Example; 15] = [
         base: 0x1008,
         offset: 0,
         bits: &[12],
-        expected: Expected::Refused(6, 0),
+        expected: Expected::Refused(Refusal::StackMisaligned),
     },
     Example {
         name: "the stack pointer as base, aligned",
@@ -297,7 +303,7 @@ const LONG: [Example; 6] = [
         base: 0xFFF7,
         offset: 0,
         bits: &[0, 4, 8, 12],
-        expected: Expected::Refused(7, 0x1_0001),
+        expected: outside(0x1_0001),
     },
     Example {
         name: "the byte before 1 MiB",
@@ -307,7 +313,7 @@ const LONG: [Example; 6] = [
         base: 0x1FFF,
         offset: 0,
         bits: &[0, 1],
-        expected: Expected::Refused(7, 0x1FFF),
+        expected: outside(0x1FFF),
     },
 ];
 
@@ -333,9 +339,9 @@ impl Example {
     /// With ZA and memory as they were.
     fn worked(&self, kind: &str, word: u32) -> Worked {
         let case = self.case(word);
-        let (answer, address) = match self.expected {
-            Expected::Refused(answer, address) => (answer, address),
-            Expected::Done { .. } => (0, 0),
+        let answer = match self.expected {
+            Expected::Refused(refusal) => Err(refusal),
+            Expected::Done { .. } => Ok(()),
         };
         Worked {
             name: format!("{kind}: {}", self.name),
@@ -343,7 +349,6 @@ impl Example {
             memory: case.memory.clone(),
             case,
             answer,
-            address,
         }
     }
 
@@ -378,8 +383,7 @@ fn there_and_back() -> [Worked; 2] {
     let whole = |name: &str, word: u32| Worked {
         name: name.to_string(),
         case: case(32, word),
-        answer: 0,
-        address: 0,
+        answer: Ok(()),
         za: bytes(32 * 32, 97),
         memory: bytes(40, 200),
     };

@@ -4,14 +4,16 @@
 mod accesses;
 
 use crate::case::{Case, Outcome};
+use crate::names::{self, Answer};
 use second::execute::Mistake;
+use sme_move::Refusal;
 
 /// A case and what must come of it. X, Z and P must stay.
 pub struct Worked {
     pub name: String,
     pub case: Case,
-    pub answer: u32,
-    pub address: u64,
+    /// With the address, where it carries one.
+    pub answer: Answer,
     pub za: Vec<u8>,
     pub memory: Vec<u8>,
 }
@@ -39,7 +41,11 @@ impl Worked {
         let Outcome {
             answer, address, ..
         } = outcome;
-        if (*answer, *address) != (self.answer, self.address) {
+        let wanted = (
+            names::number(self.answer),
+            self.answer.map_or_else(Refusal::address, |()| 0),
+        );
+        if (*answer, *address) != wanted {
             return wrong(&format!("answer {answer}, address {address:016X}"));
         }
         let case = &self.case;

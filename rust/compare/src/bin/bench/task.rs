@@ -4,7 +4,7 @@
 use crate::active::Active;
 use crate::empty;
 use crate::machine::Machine;
-use sme_move::{numbers, Buffers, Settings};
+use sme_move::{numbers, Buffers, Refusal, Settings};
 
 /// A function that executes a word, as the binding has it.
 pub type Function = fn(Settings, u32, Buffers<'_>) -> (u32, u64);
@@ -44,7 +44,7 @@ pub struct Task {
     pub kind: String,
     pub callee: Callee,
     pub word: u32,
-    /// The answer that it must get.
+    /// The number of the answer that it must get.
     pub answer: u32,
     pub vector_bytes: usize,
     pub element_bytes: usize,
@@ -78,9 +78,10 @@ impl Task {
         }
     }
 
-    /// The same call, refused with this answer. It is beside a copy of what it
-    /// would have moved.
-    pub fn refused(&self, answer: u32, why: &str, prepare: fn(&mut Machine)) -> Task {
+    /// The same call, refused. It is beside a copy of what it would have
+    /// moved.
+    pub fn refused(&self, refusal: Refusal, why: &str, prepare: fn(&mut Machine)) -> Task {
+        let answer = refusal.number();
         Task {
             name: format!("answer {answer}, {why}"),
             kind: format!("answer {answer}"),

@@ -5,12 +5,12 @@
 use crate::arguments::Arguments;
 use crate::row::{Goal, Record, Row};
 use crate::timing::{Caller, Timed, Times, Turn};
+use compare::names;
 use compare::tiles::call::Call;
-use compare::tiles::rules::{BAD_HELD, NONE_FREE};
 use compare::tiles::sets::{self, Set, MOST};
 use compare::tiles::state::put;
 use second::held::{self, HeldMistake, Tile, ELEMENT_BYTES};
-use sme_move::numbers;
+use sme_move::{numbers, Refusal};
 use std::hint::black_box;
 use std::rc::Rc;
 
@@ -111,14 +111,19 @@ fn single_calls(arguments: &Arguments) -> Result<Vec<Box<dyn Timed>>, String> {
     };
     let mut chosen: Vec<Box<dyn Timed>> = Vec::new();
     for (name, call, answers) in [
-        ("take, m=16", asked, [0, 0, NONE_FREE]),
+        (
+            "take, m=16",
+            asked,
+            [Ok(()), Ok(()), Err(Refusal::NoFreeTile)],
+        ),
         (
             "give up the first, m=16",
             Call::GiveUp { tile },
-            [BAD_HELD, 0, 0],
+            [Err(Refusal::BadHeld), Ok(()), Ok(())],
         ),
     ] {
         for (held, answer) in [0, MOST / 2, MOST].into_iter().zip(answers) {
+            let answer = names::number(answer);
             let name = format!("{name}, {held} of m=16 held, answer {answer}");
             if arguments.wants(&name) {
                 chosen.push(Box::new(Single::new(name, call, held, answer)?));

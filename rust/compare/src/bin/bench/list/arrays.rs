@@ -2,30 +2,48 @@
 
 use crate::active::Active;
 use crate::task::{Callee, Task};
+use compare::names;
+use sme_move::{encode_fields, Fields, Kind, RegisterCount};
 
-/// Name, word, number of registers, and whether the vectors are zeroed.
-const ARRAY: [(&str, u32, usize, bool); 4] = [
-    ("move from array, two", 0xC006_0802, 2, false),
-    ("move from array, four", 0xC006_0C04, 4, false),
-    ("move and zero from array, two", 0xC006_0A02, 2, true),
-    ("move and zero from array, four", 0xC006_0E04, 4, true),
+/// The kinds, in the two numbers of vectors that there are.
+const ARRAY: [(Kind, RegisterCount, &str); 4] = [
+    (Kind::MovaFromArray, RegisterCount::Two, "two"),
+    (Kind::MovaFromArray, RegisterCount::Four, "four"),
+    (Kind::MovazFromArray, RegisterCount::Two, "two"),
+    (Kind::MovazFromArray, RegisterCount::Four, "four"),
 ];
 
 /// All of them. They have no predicate and no element size.
 pub fn tasks(vector_bytes: usize) -> [Task; 4] {
-    ARRAY.map(|(name, word, copied, zeroes)| Task {
-        name: name.to_string(),
-        kind: name.to_string(),
-        callee: Callee::Archive,
-        word,
-        answer: 0,
-        vector_bytes,
-        element_bytes: 1,
-        active: Active::All,
-        prepare: |_| (),
-        copied,
-        zeroes,
-        strided: None,
-        goal: None,
+    ARRAY.map(|(kind, registers, many)| {
+        let name = format!("{}, {many}", names::name(kind));
+        Task {
+            name: name.clone(),
+            kind: name,
+            callee: Callee::Archive,
+            word: word(kind, registers.number()),
+            answer: 0,
+            vector_bytes,
+            element_bytes: 1,
+            active: Active::All,
+            prepare: |_| (),
+            copied: registers.number().into(),
+            zeroes: kind == Kind::MovazFromArray,
+            strided: None,
+            goal: None,
+        }
     })
+}
+
+/// Index register 8, and so many vector registers from the first that can be
+/// but register 0.
+fn word(kind: Kind, registers: u8) -> u32 {
+    let fields = Fields {
+        kind: kind.number(),
+        index: 8,
+        vector: registers,
+        registers,
+        ..Fields::default()
+    };
+    encode_fields(fields).expect("each has a word")
 }

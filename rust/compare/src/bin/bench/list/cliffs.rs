@@ -9,6 +9,7 @@ use super::sliced::{based_on_stack, Form, Sliced, FROM_TILE, LOAD, STORE, TO_TIL
 use crate::active::Active;
 use crate::machine::Machine;
 use crate::task::Task;
+use sme_move::Direction;
 
 /// Memory that ends inside may cost so many times the call with room.
 const GOAL: f64 = 5.0;
@@ -65,14 +66,14 @@ fn columns(vector_bytes: usize) -> impl Iterator<Item = Form> {
     let large = last.filter(|form| form.element_bytes == 16);
     large
         .chain(stray(vector_bytes))
-        .filter(|form| form.vertical)
+        .filter(|form| form.direction == Direction::Vertical)
 }
 
 /// Rows of which no element is active.
 fn inactive_rows(vector_bytes: usize) -> impl Iterator<Item = Form> {
     let none = Form::all(vector_bytes, Active::None);
     none.chain(stray(vector_bytes))
-        .filter(|form| !form.vertical)
+        .filter(|form| form.direction == Direction::Horizontal)
 }
 
 /// The forms in which there are bits that no element goes by.

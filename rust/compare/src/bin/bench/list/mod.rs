@@ -10,6 +10,7 @@ mod tests;
 use crate::active::{Active, USUAL};
 use crate::task::{Callee, Task};
 use sliced::{Form, FROM_TILE, LOAD, STORE, TO_TILE, ZEROING_FROM_TILE};
+use sme_move::Direction;
 
 pub const VECTOR_LENGTHS: [usize; 5] = [16, 32, 64, 128, 256];
 
@@ -37,7 +38,7 @@ fn empty_call(vector_bytes: usize) -> Task {
     let form = Form {
         vector_bytes,
         element_bytes: 1,
-        vertical: false,
+        direction: Direction::Horizontal,
         active: Active::All,
     };
     Task {

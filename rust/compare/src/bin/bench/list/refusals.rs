@@ -7,31 +7,39 @@ use super::sliced::{
 use crate::active::Active;
 use crate::machine::Machine;
 use crate::task::Task;
+use compare::names::FAULT;
+use sme_move::{Direction, Refusal};
 
 /// What is wrong with a machine: the answer, what a line says of it, and how
 /// the machine comes to be so.
-type Spoiled = (u32, &'static str, fn(&mut Machine));
+type Spoiled = (Refusal, &'static str, fn(&mut Machine));
 
 const BEFORE_DECODING: [Spoiled; 5] = [
-    (1, "level 4", |machine| machine.settings.level = 4),
-    (1, "vector length one more", |machine| {
+    (Refusal::BadSettings, "level 4", |machine| {
+        machine.settings.level = 4
+    }),
+    (Refusal::BadSettings, "vector length one more", |machine| {
         machine.settings.vector_bytes += 1
     }),
-    (2, "X one number short", |machine| machine.x.narrow(0..31)),
-    (2, "ZA one byte short", |machine| {
+    (Refusal::BadLengths, "X one number short", |machine| {
+        machine.x.narrow(0..31)
+    }),
+    (Refusal::BadLengths, "ZA one byte short", |machine| {
         let short = machine.za.len() - 1;
         machine.za.narrow(0..short);
     }),
-    (2, "memory beyond 2^64", |machine| {
+    (Refusal::BadLengths, "memory beyond 2^64", |machine| {
         machine.settings.memory_address = u64::MAX
     }),
 ];
 
 const AFTER_DECODING: [Spoiled; 2] = [
-    (4, "streaming off", |machine| {
+    (Refusal::StreamingOff, "streaming off", |machine| {
         machine.settings.streaming = false
     }),
-    (5, "ZA off", |machine| machine.settings.za_on = false),
+    (Refusal::ZaOff, "ZA off", |machine| {
+        machine.settings.za_on = false
+    }),
 ];
 
 /// Words that decode at no level: some near an encoding, some far from all.
@@ -43,12 +51,12 @@ pub fn tasks(vector_bytes: usize) -> Vec<Task> {
         sliced.task(Form {
             vector_bytes,
             element_bytes,
-            vertical: false,
+            direction: Direction::Horizontal,
             active,
         })
     };
     let good = row(TO_TILE, 1, Active::All);
-    let spoiled = |(answer, why, prepare): Spoiled| good.refused(answer, why, prepare);
+    let spoiled = |(refusal, why, prepare): Spoiled| good.refused(refusal, why, prepare);
     let mut tasks = Vec::from(BEFORE_DECODING.map(spoiled));
     tasks.extend(UNDECODABLE.map(|word| undecodable(&good, word)));
     tasks.push(level_too_low(&row(ZEROING_FROM_TILE, 1, Active::All)));
@@ -66,7 +74,7 @@ fn undecodable(good: &Task, word: u32) -> Task {
     Task {
         word,
         copied: 0,
-        ..good.refused(3, &format!("word {word:08X}"), |_| ())
+        ..good.refused(Refusal::Undecodable, &format!("word {word:08X}"), |_| ())
     }
 }
 
@@ -75,7 +83,9 @@ fn level_too_low(good: &Task) -> Task {
     let why = format!("word {:08X} at level 2", good.word);
     Task {
         copied: 0,
-        ..good.refused(3, &why, |machine| machine.settings.level = 2)
+        ..good.refused(Refusal::Undecodable, &why, |machine| {
+            machine.settings.level = 2
+        })
     }
 }
 
@@ -83,17 +93,17 @@ fn level_too_low(good: &Task) -> Task {
 /// last element is active, so that all are looked at.
 fn misaligned(access: Task) -> Task {
     let why = format!("{}, last, stack misaligned", access.name);
-    based_on_stack(&access).refused(6, &why, Machine::misalign_stack)
+    based_on_stack(&access).refused(Refusal::StackMisaligned, &why, Machine::misalign_stack)
 }
 
 /// The first byte is not in memory, or those from the middle on are not.
 fn outside(access: Task) -> [Task; 2] {
     let cases: [Spoiled; 2] = [
-        (7, "first byte", Machine::begin_memory_inside),
-        (7, "byte in the middle", Machine::end_memory_inside),
+        (FAULT, "first byte", Machine::begin_memory_inside),
+        (FAULT, "byte in the middle", Machine::end_memory_inside),
     ];
-    cases.map(|(answer, byte, prepare)| {
+    cases.map(|(refusal, byte, prepare)| {
         let why = format!("{}, {byte} outside", access.name);
-        access.refused(answer, &why, prepare)
+        access.refused(refusal, &why, prepare)
     })
 }

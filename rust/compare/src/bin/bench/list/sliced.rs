@@ -3,97 +3,126 @@
 
 use crate::active::Active;
 use crate::task::{Callee, Strided, Task};
+use compare::names;
+use sme_move::{decode_fields, encode, encode_fields};
+use sme_move::{Direction, ElementSize, Kind, Operation, Settings};
 
 pub const ELEMENT_BYTES: [usize; 5] = [1, 2, 4, 8, 16];
+
+/// Index register 12 with offset 0, and predicate 0, are in all words.
+const INDEX: u8 = 12;
+const OFFSET: u8 = 0;
+const PREDICATE: u8 = 0;
+/// The vector register of a move.
+const VECTOR: u8 = 1;
+/// The registers of a load or store.
+const BASE: u8 = 1;
+const OFFSET_REGISTER: u8 = 2;
+const STACK_POINTER: u8 = 31;
 
 /// An operation in its five sizes, with the loop beside it and its goal.
 #[derive(Clone, Copy)]
 pub struct Sliced {
-    pub name: &'static str,
-    /// The word of each size, horizontal. Index register 12, offset 0 and
-    /// predicate 0 are in all of them.
-    words: [u32; 5],
+    kind: Kind,
+    /// Of a tile of this size, and of this direction.
+    operation: fn(ElementSize, Direction) -> Operation,
     zeroes: bool,
     strided: Strided,
     goal: fn(Form) -> Option<f64>,
 }
 
-/// The moves between vector register 1 and a tile.
 pub const TO_TILE: Sliced = Sliced {
-    name: "move to tile",
-    words: [
-        0xC000_0020,
-        0xC040_0028,
-        0xC080_0024,
-        0xC0C0_0022,
-        0xC0C1_0021,
-    ],
+    kind: Kind::MovaToTile,
+    operation: |size, direction| Operation::MovaToTile {
+        size,
+        direction,
+        tile: tile(size),
+        offset: OFFSET,
+        index: INDEX,
+        predicate: PREDICATE,
+        vector: VECTOR,
+    },
     zeroes: false,
     strided: Strided::ToTile,
     goal: goal_of_move,
 };
 
 pub const FROM_TILE: Sliced = Sliced {
-    name: "move from tile",
-    words: [
-        0xC002_0001,
-        0xC042_0101,
-        0xC082_0081,
-        0xC0C2_0041,
-        0xC0C3_0021,
-    ],
+    kind: Kind::MovaFromTile,
+    operation: |size, direction| Operation::MovaFromTile {
+        size,
+        direction,
+        tile: tile(size),
+        offset: OFFSET,
+        index: INDEX,
+        predicate: PREDICATE,
+        vector: VECTOR,
+    },
     zeroes: false,
     strided: Strided::FromTile,
     goal: goal_of_move,
 };
 
 pub const ZEROING_FROM_TILE: Sliced = Sliced {
-    name: "move and zero from tile",
-    words: [
-        0xC002_0201,
-        0xC042_0301,
-        0xC082_0281,
-        0xC0C2_0241,
-        0xC0C3_0221,
-    ],
+    kind: Kind::MovazFromTile,
+    operation: |size, direction| Operation::MovazFromTile {
+        size,
+        direction,
+        tile: tile(size),
+        offset: OFFSET,
+        index: INDEX,
+        vector: VECTOR,
+    },
     zeroes: true,
     strided: Strided::ZeroingFromTile,
     goal: goal_of_move,
 };
 
-/// The load and the store, with base register 1 and offset register 2.
 pub const LOAD: Sliced = Sliced {
-    name: "load",
-    words: [
-        0xE002_0020,
-        0xE042_0028,
-        0xE082_0024,
-        0xE0C2_0022,
-        0xE1C2_0021,
-    ],
+    kind: Kind::Ld1,
+    operation: |size, direction| Operation::Ld1 {
+        size,
+        direction,
+        tile: tile(size),
+        offset: OFFSET,
+        index: INDEX,
+        predicate: PREDICATE,
+        base: BASE,
+        offset_register: OFFSET_REGISTER,
+    },
     zeroes: false,
     strided: Strided::Load,
     goal: goal_of_access,
 };
 
 pub const STORE: Sliced = Sliced {
-    name: "store",
-    words: [
-        0xE022_0020,
-        0xE062_0028,
-        0xE0A2_0024,
-        0xE0E2_0022,
-        0xE1E2_0021,
-    ],
+    kind: Kind::St1,
+    operation: |size, direction| Operation::St1 {
+        size,
+        direction,
+        tile: tile(size),
+        offset: OFFSET,
+        index: INDEX,
+        predicate: PREDICATE,
+        base: BASE,
+        offset_register: OFFSET_REGISTER,
+    },
     zeroes: false,
     strided: Strided::Store,
     goal: goal_of_access,
 };
 
-/// The same load or store with the stack pointer, register 31, as its base.
+/// There is only one tile of 1-byte elements; of the others it is tile 1.
+fn tile(size: ElementSize) -> u8 {
+    u8::from(size != ElementSize::Bits8)
+}
+
+/// The same load or store with the stack pointer as its base.
 pub fn based_on_stack(access: &Task) -> Task {
+    let mut fields = decode_fields(access.word, Settings::MAX_LEVEL).expect("it decodes");
+    fields.base = STACK_POINTER;
     Task {
-        word: access.word | 31 << 5,
+        word: encode_fields(fields).expect("each register can be the base"),
         ..access.clone()
     }
 }
@@ -103,7 +132,7 @@ pub fn based_on_stack(access: &Task) -> Task {
 pub struct Form {
     pub vector_bytes: usize,
     pub element_bytes: usize,
-    pub vertical: bool,
+    pub direction: Direction,
     pub active: Active,
 }
 
@@ -111,20 +140,23 @@ impl Form {
     /// Each size in both directions.
     pub fn all(vector_bytes: usize, active: Active) -> impl Iterator<Item = Form> {
         ELEMENT_BYTES.into_iter().flat_map(move |element_bytes| {
-            [false, true].map(|vertical| Form {
+            names::WAYS.map(|(direction, _)| Form {
                 vector_bytes,
                 element_bytes,
-                vertical,
+                direction,
                 active,
             })
         })
     }
 
+    fn is_vertical(self) -> bool {
+        self.direction == Direction::Vertical
+    }
+
     fn way(self) -> &'static str {
-        if self.vertical {
-            "vertical"
-        } else {
-            "horizontal"
+        match self.direction {
+            Direction::Horizontal => "horizontal",
+            Direction::Vertical => "vertical",
         }
     }
 }
@@ -132,12 +164,14 @@ impl Form {
 impl Sliced {
     /// The operation in this form, whose name does not tell what is active.
     pub fn task(&self, form: Form) -> Task {
-        let size = form.element_bytes.ilog2() as usize;
+        let (name, way) = (names::name(self.kind), form.way());
+        let size = ElementSize::of_bytes(form.element_bytes as u8).expect("one of the five");
+        let operation = (self.operation)(size, form.direction);
         Task {
-            name: format!("{}, m={}, {}", self.name, form.element_bytes, form.way()),
-            kind: format!("{}, {}", self.name, form.way()),
+            name: format!("{name}, m={}, {way}", form.element_bytes),
+            kind: format!("{name}, {way}"),
             callee: Callee::Archive,
-            word: self.words[size] | u32::from(form.vertical) << 15,
+            word: encode(operation).expect("every form has a word"),
             answer: 0,
             vector_bytes: form.vector_bytes,
             element_bytes: form.element_bytes,
@@ -145,7 +179,7 @@ impl Sliced {
             prepare: |_| (),
             copied: 1,
             zeroes: self.zeroes,
-            strided: form.vertical.then_some(self.strided),
+            strided: form.is_vertical().then_some(self.strided),
             goal: (self.goal)(form),
         }
     }
@@ -163,7 +197,7 @@ impl Sliced {
 /// For three sizes eight copies for a row, and one and a half strided loops
 /// for a column.
 fn goal_of_move(form: Form) -> Option<f64> {
-    let times = if form.vertical { 1.5 } else { 8.0 };
+    let times = if form.is_vertical() { 1.5 } else { 8.0 };
     [1, 4, 16].contains(&form.element_bytes).then_some(times)
 }
 
@@ -176,6 +210,6 @@ fn goal_of_access(form: Form) -> Option<f64> {
         12.0
     };
     let small = [1, 4].contains(&form.element_bytes);
-    let has_goal = small && !form.vertical && form.vector_bytes == 256;
+    let has_goal = small && !form.is_vertical() && form.vector_bytes == 256;
     has_goal.then_some(times)
 }

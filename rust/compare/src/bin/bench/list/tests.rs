@@ -6,7 +6,8 @@ use crate::machine::{Machine, ADDRESS};
 use crate::task::Strided;
 use crate::timing::Caller;
 use compare::case::archive_settings;
-use sme_move::{decode_fields, Fields, Settings};
+use compare::names::{self, FAULT};
+use sme_move::{decode_fields, Fields, Kind, Refusal, Settings};
 use std::collections::HashSet;
 
 /// Makes one call.
@@ -88,20 +89,12 @@ fn an_empty_call_changes_nothing() {
     assert_eq!(answered(&task), (0, 0));
 }
 
-/// The numbers of the kinds that are about a slice, and what lines call them.
-const KINDS: [(u8, &str); 5] = [
-    (1, "move to tile"),
-    (2, "move and zero from tile"),
-    (5, "store"),
-    (6, "move from tile"),
-    (7, "load"),
-];
-
-/// The numbers of the word, and what the name must say of its kind.
-fn decoded(task: &Task) -> Option<(Fields, &'static str)> {
-    let fields = decode_fields(task.word, Settings::MAX_LEVEL).ok()?;
-    let kind = KINDS.into_iter().find(|&(kind, _)| kind == fields.kind);
-    kind.map(|(_, name)| (fields, name))
+/// The numbers of the word, its kind and its direction.
+fn decoded(task: &Task) -> (Fields, Kind, Direction) {
+    let fields = decode_fields(task.word, Settings::MAX_LEVEL).expect("it decodes");
+    let kind = Kind::of_number(fields.kind).expect("decoded kinds have a name");
+    let direction = Direction::of_number(fields.direction).expect("decoded directions have one");
+    (fields, kind, direction)
 }
 
 /// What the name says is what the word decodes to. Predicate 0 governs, the
@@ -112,22 +105,32 @@ fn words_decode_to_what_names_say() {
     let done = |task: &Task| task.answer == 0 && task.callee == Callee::Archive;
     let mut seen = 0;
     for task in tasks(256).into_iter().filter(done) {
-        let Some((fields, kind)) = decoded(&task) else {
+        let (fields, kind, direction) = decoded(&task);
+        if names::is_array(kind) {
             assert!(task.name.contains("array"), "{}", task.name);
             continue;
+        }
+        let way = match direction {
+            Direction::Horizontal => "horizontal",
+            Direction::Vertical => "vertical",
         };
-        let way = ["horizontal", "vertical"][usize::from(fields.direction)];
-        let start = format!("{kind}, m={}, {way}", fields.element_bytes);
+        let name = names::name(kind);
+        let start = format!("{name}, m={}, {way}", fields.element_bytes);
         assert!(task.name.starts_with(&start), "{}, {start}", task.name);
         assert_eq!(usize::from(fields.element_bytes), task.element_bytes);
-        assert_eq!(fields.direction == 1, task.strided.is_some());
+        let is_vertical = direction == Direction::Vertical;
+        assert_eq!(is_vertical, task.strided.is_some());
         assert_eq!(fields.tile, u8::from(task.element_bytes > 1));
         assert_eq!((fields.offset, fields.index, fields.predicate), (0, 12, 0));
-        let is_access = ["load", "store"].contains(&kind);
         let on_stack = task.name.ends_with("stack misaligned");
         let base = if on_stack { 31 } else { 1 };
         let registers = [fields.vector, fields.base, fields.offset_register];
-        assert_eq!(registers, if is_access { [0, base, 2] } else { [1, 0, 0] });
+        let expected = if names::is_access(kind) {
+            [0, base, 2]
+        } else {
+            [1, 0, 0]
+        };
+        assert_eq!(registers, expected);
         seen += 1;
     }
     assert_eq!(seen, 288);
@@ -135,12 +138,18 @@ fn words_decode_to_what_names_say() {
 
 #[test]
 fn moves_from_the_array_decode_to_what_names_say() {
-    let expected = [(3, 2), (3, 4), (4, 2), (4, 4)];
-    for (task, (kind, registers)) in arrays::tasks(64).into_iter().zip(expected) {
-        let fields = decode_fields(task.word, Settings::MAX_LEVEL).expect("it decodes");
-        assert_eq!((fields.kind, fields.registers), (kind, registers));
+    let expected = [
+        (Kind::MovaFromArray, 2, "move from array, two"),
+        (Kind::MovaFromArray, 4, "move from array, four"),
+        (Kind::MovazFromArray, 2, "move and zero from array, two"),
+        (Kind::MovazFromArray, 4, "move and zero from array, four"),
+    ];
+    for (task, (kind, registers, name)) in arrays::tasks(64).into_iter().zip(expected) {
+        let (fields, own, _) = decoded(&task);
+        assert_eq!((own, fields.registers), (kind, registers));
+        assert_eq!((&task.name[..], &task.kind[..]), (name, name));
         assert_eq!(task.copied, usize::from(registers));
-        assert_eq!(task.zeroes, kind == 4);
+        assert_eq!(task.zeroes, kind == Kind::MovazFromArray);
     }
 }
 
@@ -218,7 +227,8 @@ fn other_cliffs_and_refusals_are_there() {
         let answered = |answer| tasks.iter().filter(move |task| task.answer == answer);
         let counts = [1, 2, 3, 4, 5, 6, 7].map(|answer| answered(answer).count());
         assert_eq!(counts, [2, 3, 6, 1, 1, 10, 20]);
-        let words: HashSet<_> = answered(3).map(|task| task.word).collect();
+        let undecodable = answered(Refusal::Undecodable.number());
+        let words: HashSet<_> = undecodable.map(|task| task.word).collect();
         for word in [0, 0xC001_0000, 0xC006_0001, 0xFFFF_FFFF] {
             assert!(words.contains(&word), "{word:08X}");
         }
@@ -259,7 +269,8 @@ fn cliffs_without_an_active_element_are_there() {
 /// Answer 7 is for the first byte, or for one in the middle, as told.
 #[test]
 fn bytes_outside_are_where_names_say() {
-    for task in all_tasks().into_iter().filter(|task| task.answer == 7) {
+    let outside = |task: &Task| task.answer == FAULT.number();
+    for task in all_tasks().into_iter().filter(outside) {
         let from_first = answered(&task).1 - ADDRESS;
         let middle = task.name.ends_with("byte in the middle outside");
         let expected = if middle { task.vector_bytes / 2 } else { 0 };
