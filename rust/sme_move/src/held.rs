@@ -4,8 +4,8 @@ use crate::answer::Refusal;
 use crate::numbers;
 use std::fmt;
 
-/// A tile of the array as two numbers. Any numbers can be in it: a tile exists if its elements have 1, 2, 4, 8 or 16 bytes
-/// and its number is below that.
+/// A tile of the array as two numbers. Any numbers can be in it: a tile exists if its elements have 1, 2, 4, 8 or 16
+/// bytes and its number is below that.
 #[derive(Clone, Copy, Debug, PartialEq, Eq, Hash)]
 pub struct Tile {
     pub element_bytes: u64,

@@ -40,7 +40,7 @@
 //! ```
 //! use sme_move::{ElementSize, Settings, State};
 //!
-//! let state = &mut State::new(Settings::new(16, 3)?)?;
+//! let mut state = State::new(Settings::new(16, 3)?)?;
 //! state.predicate_mut(0).copy_from_slice(&[0b0001_0000, 0b0000_1110]);
 //! let active = |size: ElementSize, e: usize| {
 //!     let bit = e * usize::from(size.bytes());
@@ -53,14 +53,14 @@
 //!
 //! # Which slice is meant
 //!
-//! An operation on a tile names an index register and an offset. Its slice is number (W + offset) mod n, W being the low
-//! 32 bits of the index register; the sum is of whole numbers and does not wrap at 2^32. A move of r = 2 or 4 vectors
-//! of the array begins at vector (W + offset) mod (B / r), and each of the others is B / r further.
+//! An operation on a tile names an index register and an offset. Its slice is number (W + offset) mod n, W being the
+//! low 32 bits of the index register; the sum is of whole numbers and does not wrap at 2^32. A move of r = 2 or 4
+//! vectors of the array begins at vector (W + offset) mod (B / r), and each of the others is B / r further.
 //!
 //! # Where a tile's slices lie in the array
 //!
-//! Horizontal slice s of tile t is vector s * m + t of the array, whole: the vectors of a tile are m apart. Element e of
-//! vertical slice s of tile t is bytes s * m to s * m + m - 1 of vector e * m + t. [`State::horizontal_slice`] and
+//! Horizontal slice s of tile t is vector s * m + t of the array, whole: the vectors of a tile are m apart. Element e
+//! of vertical slice s of tile t is bytes s * m to s * m + m - 1 of vector e * m + t. [`State::horizontal_slice`] and
 //! [`State::vertical_slice`] read them.
 
 mod answer;
