@@ -33,10 +33,6 @@ gcc -std=c11 -Wall -Wextra -Werror -pedantic -Iinclude examples/c/transpose.c "$
 run examples/c/transpose.c examples/transpose.stdout "$out/transpose"
 run examples/rust/transpose.rs examples/transpose.stdout cargo run "${cargo[@]}" -p sme_move --example transpose
 
-if [ ! -d examples/scripts ]; then
-    echo "there is no examples/scripts: no script was run"
-    exit 0
-fi
 shopt -s nullglob
 scripts=(examples/scripts/*.txt)
 if [ ${#scripts[@]} = 0 ]; then

@@ -30,8 +30,6 @@ enum {
     SLICE = 12    /* the row or column of the tile */
 };
 
-enum { HORIZONTAL = 0, VERTICAL = 1 };
-
 static void check(uint32_t answer, const char *what)
 {
     if (answer != SME_DONE) {
@@ -41,12 +39,12 @@ static void check(uint32_t answer, const char *what)
 }
 
 /* A load or store of a slice of tile 0, all of whose numbers but these are the same for both. */
-static uint32_t word_of(enum sme_kind kind, uint8_t direction, uint8_t base)
+static uint32_t word_of(enum sme_kind kind, enum sme_direction direction, uint8_t base)
 {
     const uint8_t fields[SME_FIELD_COUNT] = {
         [SME_FIELD_KIND] = (uint8_t)kind,
         [SME_FIELD_ELEMENT_BYTES] = M,
-        [SME_FIELD_DIRECTION] = direction,
+        [SME_FIELD_DIRECTION] = (uint8_t)direction,
         [SME_FIELD_INDEX_REGISTER] = SLICE,
         [SME_FIELD_BASE_REGISTER] = base,
         [SME_FIELD_OFFSET_REGISTER] = ELEMENTS,
@@ -102,8 +100,8 @@ int main(void)
     x[MATRIX_BASE] = MATRIX;
     x[TRANSPOSE_BASE] = TRANSPOSE;
 
-    const uint32_t words[2] = {word_of(SME_KIND_LOAD, HORIZONTAL, MATRIX_BASE),
-                               word_of(SME_KIND_STORE, VERTICAL, TRANSPOSE_BASE)};
+    const uint32_t words[2] = {word_of(SME_KIND_LOAD, SME_HORIZONTAL, MATRIX_BASE),
+                               word_of(SME_KIND_STORE, SME_VERTICAL, TRANSPOSE_BASE)};
     for (int i = 0; i < 2; i++) { /* all rows in, and then all columns out */
         for (uint64_t slice = 0; slice < N; slice++) {
             uint64_t address;
