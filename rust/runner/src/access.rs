@@ -1,27 +1,27 @@
 //! Where a load or store goes in memory.
 
-use sme_move::Fields;
+use crate::operation::Access;
 
 /// The register number that is the stack pointer as base, and zero as offset.
 const THIRTY_ONE: u8 = 31;
 
 /// The address of element 0: the base and the offset times the element's bytes, modulo 2^64.
-pub fn first_address(fields: Fields, registers: &[u64]) -> u64 {
-    let offset = match fields.offset_register {
+pub fn first_address(access: Access, registers: &[u64]) -> u64 {
+    let offset = match access.offset_register {
         THIRTY_ONE => 0,
         register => registers[usize::from(register)],
     };
-    let scaled = offset.wrapping_mul(u64::from(fields.element_bytes));
-    registers[usize::from(fields.base)].wrapping_add(scaled)
+    let scaled = offset.wrapping_mul(u64::from(access.size.bytes()));
+    registers[usize::from(access.base)].wrapping_add(scaled)
 }
 
 /// How that address is made.
-pub fn sum(fields: Fields) -> String {
-    let base = match fields.base {
+pub fn sum(access: Access) -> String {
+    let base = match access.base {
         THIRTY_ONE => "the stack pointer".to_string(),
         base => format!("register {base}"),
     };
-    match (fields.offset_register, fields.element_bytes) {
+    match (access.offset_register, access.size.bytes()) {
         (THIRTY_ONE, _) => format!("{base} + zero"),
         (offset, 1) => format!("{base} + register {offset}"),
         (offset, times) => format!("{base} + {times} times register {offset}"),
@@ -31,10 +31,12 @@ pub fn sum(fields: Fields) -> String {
 #[cfg(test)]
 mod tests {
     use super::*;
-    use sme_move::{decode_fields, Refusal, Settings, State};
+    use crate::operation::Parts;
+    use sme_move::{decode, Refusal, Settings, State};
 
-    fn fields(word: u32) -> Fields {
-        decode_fields(word, 1).expect("the word decodes")
+    fn access(word: u32) -> Access {
+        let operation = decode(word, 1).expect("the word decodes");
+        Parts::of(operation).access.expect("a load or store")
     }
 
     #[test]
@@ -45,7 +47,7 @@ mod tests {
             (0xE1E203E0, "the stack pointer + 16 times register 2"),
             (0xE05F03E0, "the stack pointer + zero"),
         ] {
-            assert_eq!(sum(fields(word)), expected);
+            assert_eq!(sum(access(word)), expected);
         }
     }
 
@@ -64,7 +66,7 @@ mod tests {
             0xE0220020, 0xE0620020, 0xE0AF0020, 0xE0F00020, 0xE1FE0020, 0xE0020020, 0xE0450020,
             0xE08603E0, 0xE0C703E0, 0xE1C803E0, 0xE1DF03E0, 0xE05F0100,
         ] {
-            let address = first_address(fields(word), &state.x);
+            let address = first_address(access(word), &state.x);
             let answer = state.execute(settings, word, &mut []);
             assert_eq!(
                 answer,

@@ -3,7 +3,7 @@
 use crate::paint::{Paint, Style};
 use crate::report::{decoded, item};
 use crate::wording;
-use sme_move::{decode_fields, encode_fields, Refusal};
+use sme_move::{decode, encode, Refusal};
 use std::io::{self, Write};
 
 /// Prints what a word is at a level, and the word that its numbers encode to.
@@ -13,10 +13,10 @@ pub fn print(out: &mut impl Write, word: u32, level: u64, paint: Paint) -> io::R
         "{}",
         paint.text(Style::Heading, &format!("{word:08X}"))
     )?;
-    match decode_fields(word, level) {
-        Ok(fields) => {
-            decoded(out, fields)?;
-            let back = match encode_fields(fields) {
+    match decode(word, level) {
+        Ok(operation) => {
+            decoded(out, operation)?;
+            let back = match encode(operation) {
                 Ok(back) if back == word => format!("{back:08X}, the same word"),
                 Ok(back) => format!("{back:08X}, another word"),
                 Err(refusal) => wording::answer(Err(refusal)),

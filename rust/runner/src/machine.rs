@@ -1,8 +1,8 @@
 //! The simulated machine: settings, registers, the array and memory.
 
-use crate::kind;
+use crate::operation::Parts;
 use crate::script::{Action, Place, Script};
-use sme_move::{decode_fields, Fields, Refusal, Settings, State};
+use sme_move::{decode, Operation, Refusal, Settings, State};
 
 pub struct Machine {
     pub settings: Settings,
@@ -13,7 +13,7 @@ pub struct Machine {
 /// What came of a word, with what was there before it.
 pub struct Execution {
     pub word: u32,
-    pub fields: Result<Fields, Refusal>,
+    pub operation: Result<Operation, Refusal>,
     pub answer: Result<(), Refusal>,
     pub state_before: State,
     /// Memory before a store; empty for other words, which leave memory alone, loads included.
@@ -63,8 +63,8 @@ impl Machine {
     }
 
     fn execute(&mut self, word: u32) -> Execution {
-        let fields = decode_fields(word, self.settings.level);
-        let stores = fields.is_ok_and(|fields| fields.kind == kind::STORE);
+        let operation = decode(word, self.settings.level);
+        let stores = operation.is_ok_and(|operation| Parts::of(operation).stores());
         let memory_before = if stores {
             self.memory.clone()
         } else {
@@ -74,7 +74,7 @@ impl Machine {
         let answer = self.state.execute(self.settings, word, &mut self.memory);
         Execution {
             word,
-            fields,
+            operation,
             answer,
             state_before,
             memory_before,
@@ -98,12 +98,17 @@ mod tests {
     use crate::access::first_address;
     use crate::script::parse;
     use crate::taken::{active_elements, Taken};
+    use sme_move::Direction;
 
     fn machine(vector_bytes: usize) -> Machine {
         let text = format!("vector-bytes {vector_bytes}\nword C0000000\n");
         let mut machine = Machine::new(&parse(&text).expect("a good script"));
         machine.state.x.fill(0x1_0000_0007);
         machine
+    }
+
+    fn parts(execution: &Execution) -> Parts {
+        Parts::of(execution.operation.expect("the word decodes"))
     }
 
     /// Bytes that are not zero and differ from their neighbours.
@@ -120,7 +125,7 @@ mod tests {
             Taken::Vectors(vectors) => vectors.iter().flat_map(|&v| whole(v)).collect(),
             Taken::Slice {
                 tile,
-                vertical: false,
+                direction: Direction::Horizontal,
                 slice,
             } => whole(tile.vector(*slice)).collect(),
             Taken::Slice { tile, slice, .. } => {
@@ -144,7 +149,7 @@ mod tests {
                 machine.state.za.fill(0xEE);
                 let done = machine.execute(word);
                 assert_eq!(done.answer, Ok(()));
-                let taken = Taken::by(done.fields.unwrap(), vector_bytes, &machine.state.x);
+                let taken = Taken::by(parts(&done), vector_bytes, &machine.state.x);
                 let mut expected = taken_bytes(&taken, vector_bytes);
                 expected.sort_unstable();
                 let zeros = machine
@@ -163,12 +168,13 @@ mod tests {
     }
 
     /// Whether each of the bytes that a word takes is moved to a register or memory: those of active elements are.
-    fn moved_bytes(fields: Fields, taken: &Taken, machine: &Machine) -> Vec<bool> {
+    fn moved_bytes(parts: Parts, taken: &Taken, machine: &Machine) -> Vec<bool> {
         let length = machine.vector_bytes();
         match *taken {
             Taken::Vectors(ref vectors) => vec![true; vectors.len() * length],
             Taken::Slice { tile, .. } => {
-                let predicate = machine.member(Place::Predicate, usize::from(fields.predicate));
+                let predicate = parts.governing_predicate.expect("there is one");
+                let predicate = machine.member(Place::Predicate, usize::from(predicate));
                 let active = active_elements(tile, predicate);
                 let element = |byte| byte / tile.element_bytes;
                 (0..length)
@@ -192,11 +198,11 @@ mod tests {
                 let mut expected = machine.state.clone();
                 let done = machine.execute(word);
                 assert_eq!(done.answer, Ok(()));
-                let fields = done.fields.unwrap();
-                let taken = Taken::by(fields, vector_bytes, &machine.state.x);
-                let first = usize::from(fields.vector) * vector_bytes;
+                let parts = parts(&done);
+                let taken = Taken::by(parts, vector_bytes, &machine.state.x);
+                let first = usize::from(parts.vector.expect("there is one")) * vector_bytes;
                 let places = taken_bytes(&taken, vector_bytes).into_iter();
-                let moved = moved_bytes(fields, &taken, &machine);
+                let moved = moved_bytes(parts, &taken, &machine);
                 for (byte, (place, moved)) in places.zip(moved).enumerate() {
                     if moved {
                         expected.z[first + byte] = expected.za[place];
@@ -215,8 +221,9 @@ mod tests {
         machine.state.x[31] = 0x2_0000_0000;
         machine.memory = vec![0; vector_bytes];
         fill(&mut machine.memory, 11);
-        let fields = decode_fields(word, 3).expect("the word decodes");
-        let address = first_address(fields, &machine.state.x);
+        let parts = Parts::of(decode(word, 3).expect("the word decodes"));
+        let access = parts.access.expect("a load or store");
+        let address = first_address(access, &machine.state.x);
         machine.settings = machine.settings.with_memory_address(address);
         machine
     }
@@ -232,10 +239,10 @@ mod tests {
                 let memory = machine.memory.clone();
                 let done = machine.execute(word);
                 assert_eq!(done.answer, Ok(()));
-                let fields = done.fields.unwrap();
-                let taken = Taken::by(fields, vector_bytes, &machine.state.x);
+                let parts = parts(&done);
+                let taken = Taken::by(parts, vector_bytes, &machine.state.x);
                 let places = taken_bytes(&taken, vector_bytes).into_iter();
-                let loaded = moved_bytes(fields, &taken, &machine);
+                let loaded = moved_bytes(parts, &taken, &machine);
                 for (byte, (place, loaded)) in places.zip(loaded).enumerate() {
                     expected.za[place] = if loaded { memory[byte] } else { 0 };
                 }
@@ -256,10 +263,10 @@ mod tests {
                 let mut expected = machine.memory.clone();
                 let done = machine.execute(word);
                 assert_eq!(done.answer, Ok(()));
-                let fields = done.fields.unwrap();
-                let taken = Taken::by(fields, vector_bytes, &machine.state.x);
+                let parts = parts(&done);
+                let taken = Taken::by(parts, vector_bytes, &machine.state.x);
                 let places = taken_bytes(&taken, vector_bytes).into_iter();
-                let stored = moved_bytes(fields, &taken, &machine);
+                let stored = moved_bytes(parts, &taken, &machine);
                 for (byte, (place, stored)) in places.zip(stored).enumerate() {
                     if stored {
                         expected[byte] = before.za[place];

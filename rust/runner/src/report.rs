@@ -4,13 +4,13 @@ mod grids;
 
 use crate::access;
 use crate::grid::Grid;
-use crate::kind;
 use crate::machine::{Execution, Machine};
+use crate::operation::{Access, Parts, Reach};
 use crate::paint::{Style, View};
 use crate::script::Place;
 use crate::taken::{active_elements, index_value, modulus, Taken};
-use crate::wording::{self, counted, direction, list, ranges};
-use sme_move::Fields;
+use crate::wording::{self, counted, direction_name, list, ranges};
+use sme_move::Operation;
 use std::io::{self, Write};
 
 /// Where a word stands: its number among the words, from 1, and its line.
@@ -30,10 +30,10 @@ pub fn word(
     let title = format!("word {}: {:08X}", position.number, execution.word);
     let title = view.paint.text(Style::Heading, &title);
     writeln!(out, "{title} (line {})", position.line)?;
-    match execution.fields {
-        Ok(fields) => {
-            decoded(out, fields)?;
-            taking(out, fields, machine)?;
+    match execution.operation {
+        Ok(operation) => {
+            decoded(out, operation)?;
+            taking(out, Parts::of(operation), machine)?;
         }
         Err(_) => item(
             out,
@@ -42,9 +42,9 @@ pub fn word(
         )?,
     }
     answer(out, view, execution)?;
-    if let (Ok(fields), Ok(())) = (execution.fields, execution.answer) {
+    if let (Ok(operation), Ok(())) = (execution.operation, execution.answer) {
         item(out, "changed", &[changed(execution, machine)])?;
-        for grid in grids::of(fields, execution, machine) {
+        for grid in grids::of(Parts::of(operation), execution, machine) {
             writeln!(out)?;
             draw(out, view, &grid)?;
         }
@@ -74,9 +74,9 @@ fn draw(out: &mut impl Write, view: &View, grid: &Grid) -> io::Result<()> {
 }
 
 /// What a word is, and its eleven numbers.
-pub fn decoded(out: &mut impl Write, fields: Fields) -> io::Result<()> {
-    item(out, "meaning", &[wording::meaning(fields)])?;
-    item(out, "fields", &wording::fields(fields))
+pub fn decoded(out: &mut impl Write, operation: Operation) -> io::Result<()> {
+    item(out, "meaning", &[wording::meaning(operation)])?;
+    item(out, "fields", &wording::fields(operation.into()))
 }
 
 /// Lines under a name.
@@ -88,27 +88,27 @@ pub fn item(out: &mut impl Write, name: &str, lines: &[String]) -> io::Result<()
     Ok(())
 }
 
-fn taking(out: &mut impl Write, fields: Fields, machine: &Machine) -> io::Result<()> {
+fn taking(out: &mut impl Write, parts: Parts, machine: &Machine) -> io::Result<()> {
     let registers = &machine.state.x;
-    let taken = Taken::by(fields, machine.vector_bytes(), registers);
-    item(out, "takes", &[what_is_taken(&taken), why(fields, machine)])?;
-    if let (true, Taken::Slice { tile, .. }) = (kind::is_predicated(fields.kind), taken) {
-        let predicate = machine.member(Place::Predicate, usize::from(fields.predicate));
+    let taken = Taken::by(parts, machine.vector_bytes(), registers);
+    item(out, "takes", &[what_is_taken(&taken), why(parts, machine)])?;
+    if let (Some(predicate), Taken::Slice { tile, .. }) = (parts.governing_predicate, taken) {
+        let predicate = machine.member(Place::Predicate, usize::from(predicate));
         let active = active(&active_elements(tile, predicate), tile.slices());
         item(out, "active", &[active])?;
     }
-    if kind::is_access(fields.kind) {
-        item(out, "address", &[address(fields, registers)])?;
+    if let Some(access) = parts.access {
+        item(out, "address", &[address(access, registers)])?;
     }
     Ok(())
 }
 
 /// Where a load or store begins in memory, and how far apart elements are of more than one byte.
-fn address(fields: Fields, registers: &[u64]) -> String {
-    let address = access::first_address(fields, registers);
-    let sum = access::sum(fields);
+fn address(access: Access, registers: &[u64]) -> String {
+    let address = access::first_address(access, registers);
+    let sum = access::sum(access);
     let first = format!("{address:016X} for element 0: {sum}");
-    match fields.element_bytes {
+    match access.size.bytes() {
         1 => first,
         bytes => format!("{first}, then every {bytes}"),
     }
@@ -118,10 +118,10 @@ fn what_is_taken(taken: &Taken) -> String {
     match taken {
         Taken::Slice {
             tile,
-            vertical,
+            direction,
             slice,
         } => {
-            let (direction, last) = (direction(*vertical), tile.slices() - 1);
+            let (direction, last) = (direction_name(*direction), tile.slices() - 1);
             format!(
                 "{direction} slice {slice} (of 0 to {last}) of {}",
                 tile.name()
@@ -135,14 +135,14 @@ fn what_is_taken(taken: &Taken) -> String {
 }
 
 /// How the slice number, or the first vector number, comes about.
-fn why(fields: Fields, machine: &Machine) -> String {
-    let (index, offset) = (fields.index, fields.offset);
-    let value = index_value(fields, &machine.state.x);
-    let modulus = modulus(fields, machine.vector_bytes());
+fn why(parts: Parts, machine: &Machine) -> String {
+    let (index, offset) = (parts.index, parts.offset);
+    let value = index_value(parts, &machine.state.x);
+    let modulus = modulus(parts.reach, machine.vector_bytes());
     let sum = format!("{value:08X} in the low 32 bits of register {index} + offset {offset}");
-    match fields.element_bytes {
-        0 => format!("({sum}) modulo {modulus}, then every {modulus}"),
-        _ => format!("({sum}) modulo {modulus}"),
+    match parts.reach {
+        Reach::Group(_) => format!("({sum}) modulo {modulus}, then every {modulus}"),
+        Reach::Slice { .. } => format!("({sum}) modulo {modulus}"),
     }
 }
 

@@ -1,54 +1,57 @@
 //! What of the array a word takes, and which elements are active.
 
+use crate::operation::{Parts, Reach};
 use crate::tile::Tile;
-use sme_move::Fields;
+use sme_move::Direction;
 
 /// The part of the array that a word takes.
 #[derive(Debug, PartialEq)]
 pub enum Taken {
     Slice {
         tile: Tile,
-        vertical: bool,
+        direction: Direction,
         slice: usize,
     },
     Vectors(Vec<usize>),
 }
 
-pub fn is_vertical(fields: Fields) -> bool {
-    fields.direction == 1
-}
-
 /// The low 32 bits of the index register, which alone count.
-pub fn index_value(fields: Fields, registers: &[u64]) -> u32 {
-    registers[usize::from(fields.index)] as u32
+pub fn index_value(parts: Parts, registers: &[u64]) -> u32 {
+    registers[usize::from(parts.index)] as u32
 }
 
 /// What a slice or vector number is taken modulo.
-pub fn modulus(fields: Fields, vector_bytes: usize) -> usize {
-    let parts = match fields.element_bytes {
-        0 => fields.registers,
-        element_bytes => element_bytes,
+pub fn modulus(reach: Reach, vector_bytes: usize) -> usize {
+    let divisor = match reach {
+        Reach::Slice { size, .. } => size.bytes(),
+        Reach::Group(registers) => registers.number(),
     };
-    vector_bytes / usize::from(parts)
+    vector_bytes / usize::from(divisor)
 }
 
 impl Taken {
-    pub fn by(fields: Fields, vector_bytes: usize, registers: &[u64]) -> Taken {
-        let modulus = modulus(fields, vector_bytes);
-        let sum = u64::from(index_value(fields, registers)) + u64::from(fields.offset);
+    pub fn by(parts: Parts, vector_bytes: usize, registers: &[u64]) -> Taken {
+        let modulus = modulus(parts.reach, vector_bytes);
+        let sum = u64::from(index_value(parts, registers)) + u64::from(parts.offset);
         let first = (sum % modulus as u64) as usize;
-        if fields.element_bytes == 0 {
-            let group = 0..usize::from(fields.registers);
-            return Taken::Vectors(group.map(|i| first + i * modulus).collect());
-        }
-        Taken::Slice {
-            tile: Tile {
-                element_bytes: usize::from(fields.element_bytes),
-                number: usize::from(fields.tile),
-                vector_bytes,
+        match parts.reach {
+            Reach::Group(registers) => {
+                let group = 0..usize::from(registers.number());
+                Taken::Vectors(group.map(|i| first + i * modulus).collect())
+            }
+            Reach::Slice {
+                size,
+                direction,
+                tile,
+            } => Taken::Slice {
+                tile: Tile {
+                    element_bytes: usize::from(size.bytes()),
+                    number: usize::from(tile),
+                    vector_bytes,
+                },
+                direction,
+                slice: first,
             },
-            vertical: is_vertical(fields),
-            slice: first,
         }
     }
 }
@@ -65,13 +68,13 @@ pub fn active_elements(tile: Tile, predicate: &[u8]) -> Vec<usize> {
 #[cfg(test)]
 mod tests {
     use super::*;
-    use sme_move::decode_fields;
+    use sme_move::decode;
 
     fn taken(word: u32, vector_bytes: usize, index: u64) -> Taken {
-        let fields = decode_fields(word, 3).expect("the word decodes");
+        let parts = Parts::of(decode(word, 3).expect("the word decodes"));
         let mut registers = [0; 32];
-        registers[usize::from(fields.index)] = index;
-        Taken::by(fields, vector_bytes, &registers)
+        registers[usize::from(parts.index)] = index;
+        Taken::by(parts, vector_bytes, &registers)
     }
 
     #[test]
@@ -83,7 +86,7 @@ mod tests {
         };
         let slice = Taken::Slice {
             tile,
-            vertical: true,
+            direction: Direction::Vertical,
             slice: 0,
         };
         assert_eq!(taken(0xC0C2E3BF, 64, 0xFFFF_FFFF), slice);

@@ -2,9 +2,8 @@
 
 use crate::access;
 use crate::digits::shown;
-use crate::kind;
-use crate::taken::is_vertical;
-use sme_move::{Fields, Refusal};
+use crate::operation::{Access, Parts, Reach};
+use sme_move::{Direction, Fields, Operation, Refusal};
 
 /// The names of the eleven numbers, in their order.
 const FIELD_NAMES: [&str; 11] = [
@@ -25,54 +24,59 @@ const FIELD_NAMES: [&str; 11] = [
 const MAX_RANGES: usize = 12;
 
 /// What a decoded word is.
-pub fn meaning(fields: Fields) -> String {
-    let vector = fields.vector;
-    match fields.kind {
-        kind::MOVE_TO_TILE => format!(
-            "move to tile: {}; from vector register {vector}, predicate {}",
-            slices(fields),
-            fields.predicate
-        ),
-        kind::MOVE_AND_ZERO_FROM_TILE => format!(
-            "move and zero from tile: {}; to vector register {vector}",
-            slices(fields)
-        ),
-        kind::MOVE_FROM_TILE => format!(
-            "move from tile: {}; to vector register {vector}, predicate {}",
-            slices(fields),
-            fields.predicate
-        ),
-        kind::MOVE_FROM_ARRAY => format!("move from array: {}", group(fields)),
-        kind::MOVE_AND_ZERO_FROM_ARRAY => format!("move and zero from array: {}", group(fields)),
-        kind::LOAD => format!("load to tile: {}", access(fields)),
-        _ => format!("store from tile: {}", access(fields)),
+pub fn meaning(operation: Operation) -> String {
+    let Parts {
+        name,
+        reach,
+        governing_predicate,
+        vector,
+        access,
+        ..
+    } = Parts::of(operation);
+    let mut details = Vec::new();
+    if let Some(first) = vector {
+        details.push(vectors(operation, reach, first));
+    }
+    details.extend(governing_predicate.map(|number| format!("predicate {number}")));
+    details.extend(access.map(at));
+    format!("{name}: {}; {}", reached(reach), details.join(", "))
+}
+
+fn at(access: Access) -> String {
+    format!("at {}", access::sum(access))
+}
+
+fn reached(reach: Reach) -> String {
+    match reach {
+        Reach::Slice {
+            size,
+            direction,
+            tile,
+        } => {
+            let (bytes, direction) = (size.bytes(), direction_name(direction));
+            format!("{bytes}-byte elements, tile {tile}, {direction}")
+        }
+        Reach::Group(registers) => format!("{} vectors", registers.number()),
     }
 }
 
-fn access(fields: Fields) -> String {
-    let (slices, predicate) = (slices(fields), fields.predicate);
-    let address = access::sum(fields);
-    format!("{slices}; predicate {predicate}, at {address}")
-}
-
-fn slices(fields: Fields) -> String {
-    let direction = direction(is_vertical(fields));
-    let (element_bytes, tile) = (fields.element_bytes, fields.tile);
-    format!("{element_bytes}-byte elements, tile {tile}, {direction}")
-}
-
-pub fn direction(vertical: bool) -> &'static str {
-    if vertical {
-        "vertical"
-    } else {
-        "horizontal"
+/// The vector registers that an operation reads or writes.
+fn vectors(operation: Operation, reach: Reach, first: u8) -> String {
+    match (operation, reach) {
+        (Operation::MovaToTile { .. }, _) => format!("from vector register {first}"),
+        (_, Reach::Slice { .. }) => format!("to vector register {first}"),
+        (_, Reach::Group(registers)) => {
+            let last = first + registers.number() - 1;
+            format!("to vector registers {first} to {last}")
+        }
     }
 }
 
-fn group(fields: Fields) -> String {
-    let (count, first) = (fields.registers, fields.vector);
-    let last = first + count - 1;
-    format!("{count} vectors; to vector registers {first} to {last}")
+pub fn direction_name(direction: Direction) -> &'static str {
+    match direction {
+        Direction::Horizontal => "horizontal",
+        Direction::Vertical => "vertical",
+    }
 }
 
 /// What a word is that does not decode.
@@ -99,6 +103,8 @@ pub fn answer(answer: Result<(), Refusal>) -> String {
         Ok(()) => answered(0, "done"),
         // The runner's registers always have the right lengths, so this is all that is left of 2.
         Err(Refusal::BadLengths) => answered(2, "memory ends above address FFFFFFFFFFFFFFFF"),
+        // No letters name the array here, whatever the binding says.
+        Err(Refusal::ZaOff) => answered(5, "the array is off"),
         Err(refusal) => answered(refusal.number(), &refusal.to_string()),
     }
 }
@@ -153,10 +159,10 @@ pub fn quoted(text: &std::ffi::OsStr) -> String {
 #[cfg(test)]
 mod tests {
     use super::*;
-    use sme_move::decode_fields;
+    use sme_move::decode;
 
     fn meaning_of(word: u32) -> String {
-        meaning(decode_fields(word, 3).expect("the word decodes"))
+        meaning(decode(word, 3).expect("the word decodes"))
     }
 
     #[test]
@@ -223,7 +229,7 @@ mod tests {
     #[test]
     fn answers_have_their_numbers() {
         assert_eq!(answer(Ok(())), "0: done");
-        assert_eq!(answer(Err(Refusal::ZaOff)), "5: ZA is off");
+        assert_eq!(answer(Err(Refusal::ZaOff)), "5: the array is off");
         let outside = Refusal::OutsideMemory { address: 0xFC };
         assert_eq!(
             answer(Err(outside)),

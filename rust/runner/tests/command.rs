@@ -188,7 +188,10 @@ fn every_answer_that_a_script_can_get_is_printed() {
             "vector-bytes 16\nstreaming off\narray off\nword C0000000",
             "4: streaming mode is off",
         ),
-        ("vector-bytes 16\narray off\nword C0000000", "5: ZA is off"),
+        (
+            "vector-bytes 16\narray off\nword C0000000",
+            "5: the array is off",
+        ),
         (stack, "6: the stack pointer is no multiple of 16"),
         (outside, "7: address 0000000000000010 is not in memory"),
         (straddling, "7: address 0000000000000001 is not in memory"),

@@ -115,7 +115,7 @@ fn is_assembler(text: &str) -> bool {
     ["x", "w", "z", "p", "za", "ld", "st"]
         .into_iter()
         .any(numbered)
-        || ["mova", "movaz", "mov", "sp", "xzr"].contains(&text.as_str())
+        || ["mova", "movaz", "mov", "sp", "xzr", "za"].contains(&text.as_str())
 }
 
 #[test]
@@ -139,5 +139,5 @@ fn nothing_is_said_in_assembler() {
             .into_iter()
             .all(is_assembler)
     );
-    assert!(!is_assembler("ZA") && !is_assembler("word") && !is_assembler("C0800000"));
+    assert!(is_assembler("ZA") && !is_assembler("word") && !is_assembler("C0800000"));
 }

@@ -2,10 +2,11 @@
 
 use crate::grid::{Grid, Row};
 use crate::machine::{member, Execution, Machine};
+use crate::operation::Parts;
 use crate::script::Place;
 use crate::taken::Taken;
 use crate::tile::Tile;
-use sme_move::Fields;
+use sme_move::Direction;
 
 /// How many bytes stand together where there are no elements.
 const GROUP: usize = 4;
@@ -15,20 +16,20 @@ const MEMORY_ROW: usize = 16;
 
 /// The array's part that the word takes, and the vector registers and the memory that changed.
 pub fn of<'a>(
-    fields: Fields,
+    parts: Parts,
     execution: &'a Execution,
     machine: &'a Machine,
 ) -> impl Iterator<Item = Grid<'a>> {
     let vector_bytes = machine.vector_bytes();
-    let array = match Taken::by(fields, vector_bytes, &machine.state.x) {
+    let array = match Taken::by(parts, vector_bytes, &machine.state.x) {
         Taken::Slice {
             tile,
-            vertical,
+            direction,
             slice,
-        } => of_tile(execution, machine, tile, vertical, slice),
+        } => of_tile(execution, machine, tile, direction, slice),
         Taken::Vectors(vectors) => of_vectors(execution, machine, &vectors),
     };
-    let registers = of_registers(fields, execution, machine);
+    let registers = of_registers(parts, execution, machine);
     let memory = of_memory(execution, machine);
     let changes = [registers, memory].into_iter();
     [array]
@@ -57,9 +58,10 @@ fn of_tile<'a>(
     execution: &'a Execution,
     machine: &'a Machine,
     tile: Tile,
-    vertical: bool,
+    direction: Direction,
     slice: usize,
 ) -> Grid<'a> {
+    let vertical = direction == Direction::Vertical;
     let tile_row = |number: usize| {
         let vector = tile.vector(number);
         let labels = vec![number.to_string(), vector.to_string()];
@@ -91,15 +93,15 @@ fn of_vectors<'a>(execution: &'a Execution, machine: &'a Machine, vectors: &[usi
     }
 }
 
-fn of_registers<'a>(fields: Fields, execution: &'a Execution, machine: &'a Machine) -> Grid<'a> {
+fn of_registers<'a>(parts: Parts, execution: &'a Execution, machine: &'a Machine) -> Grid<'a> {
     let registers = 0..Place::Vector.members(machine.vector_bytes());
     let rows = registers.map(|number| {
         let place = (Place::Vector, number);
         row(execution, machine, place, vec![number.to_string()], false)
     });
-    let (column, group) = match usize::from(fields.element_bytes) {
-        0 => (("byte", GROUP), GROUP),
-        element_bytes => (("element", 1), element_bytes),
+    let (column, group) = match parts.reach.element_bytes() {
+        None => (("byte", GROUP), GROUP),
+        Some(element_bytes) => (("element", 1), element_bytes),
     };
     Grid {
         title: "vector registers that changed".to_string(),
