@@ -13,9 +13,7 @@ const WIDTH: u64 = 120;
 
 pub enum Task {
     Help,
-    Run {
-        source: Source,
-    },
+    Run(Running),
     Decode {
         level: u64,
         words: Vec<u32>,
@@ -28,6 +26,28 @@ pub enum Task {
         held: Vec<Tile>,
         sheet: Sheet,
     },
+}
+
+/// A script to run.
+pub struct Running {
+    pub source: Source,
+    pub strict: bool,
+    pub form: Form,
+    pub outputs: Outputs,
+}
+
+/// What is printed of a run.
+pub enum Form {
+    Full,
+    Brief,
+}
+
+/// Files that get bytes at the end of a run.
+#[derive(Default)]
+pub struct Outputs {
+    pub words: Option<OsString>,
+    pub memory: Option<OsString>,
+    pub array: Option<OsString>,
 }
 
 /// The array that is shown, and where its drawing goes if that is wanted and no table.
@@ -51,8 +71,13 @@ struct Given {
     operands: Vec<OsString>,
 }
 
-const FLAGS: [&str; 4] = ["--help", "--decode", "--map", "--all"];
-const VALUES: [&str; 6] = [
+const FLAGS: [&str; 6] = [
+    "--help", "--decode", "--map", "--all", "--strict", "--quiet",
+];
+const VALUES: [&str; 9] = [
+    "--words-out",
+    "--memory-out",
+    "--array-out",
     "--take",
     "--level",
     "--vector-bytes",
@@ -64,6 +89,15 @@ const VALUES: [&str; 6] = [
 /// The options that a sheet has, and the tasks that have one.
 const OF_SHEET: [&str; 2] = ["--vector-bytes", "--svg"];
 const WITH_SHEET: &str = "--map or --take";
+
+/// The options that only a script has.
+const OF_RUN: [&str; 5] = [
+    "--strict",
+    "--quiet",
+    "--words-out",
+    "--memory-out",
+    "--array-out",
+];
 
 pub fn parse(arguments: impl Iterator<Item = OsString>) -> Result<Command, String> {
     let given = Given::read(arguments)?;
@@ -126,6 +160,10 @@ impl Given {
         self.flags.contains(&flag)
     }
 
+    fn given(&self, name: &str) -> bool {
+        self.has(name) || self.value(name).is_some()
+    }
+
     fn value(&self, name: &str) -> Option<&OsStr> {
         let found = self.values.iter().find(|(known, _)| *known == name);
         found.map(|(_, value)| value.as_os_str())
@@ -144,11 +182,13 @@ impl Given {
         if self.has("--help") {
             return Ok(Task::Help);
         }
-        let given = |name: &&str| self.has(name) || self.value(name).is_some();
         let tasks: Vec<&str> = ["--decode", "--map", "--take"]
             .into_iter()
-            .filter(given)
+            .filter(|name| self.given(name))
             .collect();
+        if !tasks.is_empty() {
+            self.without(&OF_RUN, "a script")?;
+        }
         match tasks.as_slice() {
             ["--decode"] => self.decode(),
             ["--map"] => self.map(),
@@ -160,7 +200,7 @@ impl Given {
 
     /// An option that has no meaning here would be overlooked in silence, so it is a mistake.
     fn without(&self, names: &[&str], task: &str) -> Result<(), String> {
-        match names.iter().find(|name| self.value(name).is_some()) {
+        match names.iter().find(|name| self.given(name)) {
             Some(name) => Err(format!("{name} goes only with {task}")),
             None => Ok(()),
         }
@@ -222,7 +262,28 @@ impl Given {
                 return Err(format!("one file is enough; {} is more", quoted(second)))
             }
         };
-        Ok(Task::Run { source })
+        let form = match self.has("--quiet") {
+            true => Form::Brief,
+            false => Form::Full,
+        };
+        Ok(Task::Run(Running {
+            source,
+            strict: self.has("--strict"),
+            form,
+            outputs: Outputs {
+                words: self.output("--words-out")?,
+                memory: self.output("--memory-out")?,
+                array: self.output("--array-out")?,
+            },
+        }))
+    }
+
+    /// A file that gets bytes. Standard output has the report.
+    fn output(&self, name: &str) -> Result<Option<OsString>, String> {
+        match self.value(name) {
+            Some(file) if file == "-" => Err(format!("{name} takes a file, not -")),
+            file => Ok(file.map(OsStr::to_os_string)),
+        }
     }
 }
 

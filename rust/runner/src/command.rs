@@ -1,8 +1,11 @@
 //! What the program does, and its exit status.
 
-use crate::arguments::{self, Command, Sheet, Task};
+use crate::arguments::{self, Command, Form, Outputs, Running, Sheet, Task};
 use crate::input::Source;
+use crate::machine::Machine;
 use crate::paint::{Paint, View};
+use crate::report::{Brief, Report};
+use crate::run::{Observer, Tally};
 use crate::script::{self, Script};
 use crate::take::Taking;
 use crate::{decoding, map, map_svg, run};
@@ -21,6 +24,8 @@ enum Failure {
     Output(String),
     /// The reader of the output has left.
     Pipe,
+    /// The script ran, and did not do what it should.
+    Run(String),
 }
 
 impl From<io::Error> for Failure {
@@ -32,8 +37,8 @@ impl From<io::Error> for Failure {
     }
 }
 
-/// Does what the command line asks. The status is 0 if it was done, 1 if output could not be written
-/// and 2 if the input is wrong.
+/// Does what the command line asks. The status is 0 if it was done, 1 if output could not be written, 2 if the
+/// input is wrong and 3 if a script ran and did not do what it should.
 pub fn main(arguments: impl Iterator<Item = OsString>) -> ExitCode {
     let command = arguments::parse(arguments)
         .map_err(|message| Failure::Input(format!("runner: {message} (--help says more)")));
@@ -42,6 +47,7 @@ pub fn main(arguments: impl Iterator<Item = OsString>) -> ExitCode {
         Err(Failure::Input(message)) => (2, message),
         Err(Failure::Output(message)) => (1, message),
         Err(Failure::Pipe) => return ExitCode::from(1),
+        Err(Failure::Run(message)) => (3, message),
     };
     // Where standard error is closed as well, the status has to do.
     let _ = writeln!(io::stderr(), "{message}");
@@ -57,7 +63,7 @@ fn perform(command: Command) -> Result<(), Failure> {
     let mut out = BufWriter::new(io::stdout().lock());
     match command.task {
         Task::Help => out.write_all(HELP.as_bytes())?,
-        Task::Run { source } => run::run(&mut out, &view, &script_of(&source)?)?,
+        Task::Run(running) => return run_script(&mut out, &view, &running),
         Task::Decode { level, words } => {
             for word in words {
                 decoding::print(&mut out, word, level, view.paint)?;
@@ -86,9 +92,50 @@ fn perform(command: Command) -> Result<(), Failure> {
     Ok(out.flush()?)
 }
 
+/// Runs a script, writes the files that are asked for, also after failures, and tells of the first failure.
+fn run_script(out: &mut impl Write, view: &View, running: &Running) -> Result<(), Failure> {
+    let script = script_of(&running.source)?;
+    let name = running.source.name();
+    let (machine, tally) = {
+        let (name, out) = (name.as_str(), &mut *out);
+        let observer: &mut dyn Observer = match running.form {
+            Form::Full => &mut Report { out, view, name },
+            Form::Brief => &mut Brief { out, name },
+        };
+        run::run(observer, &script, running.strict)?
+    };
+    out.flush()?;
+    write_outputs(&running.outputs, &script, &machine)?;
+    verdict_on(&tally, &name)
+}
+
+fn verdict_on(tally: &Tally, name: &str) -> Result<(), Failure> {
+    let Some((line, headline)) = &tally.first_failure else {
+        return Ok(());
+    };
+    let more = match tally.unmet + tally.not_allowed - 1 {
+        0 => String::new(),
+        more => format!(" ({more} more such after it)"),
+    };
+    Err(Failure::Run(format!("{name}:{line}: {headline}{more}")))
+}
+
+fn write_outputs(outputs: &Outputs, script: &Script, machine: &Machine) -> Result<(), Failure> {
+    if let Some(file) = &outputs.words {
+        write_file(file, &script.words_as_bytes())?;
+    }
+    if let Some(file) = &outputs.memory {
+        write_file(file, &machine.memory)?;
+    }
+    if let Some(file) = &outputs.array {
+        write_file(file, &machine.state.za)?;
+    }
+    Ok(())
+}
+
 fn script_of(source: &Source) -> Result<Script, Failure> {
     let text = source.text();
-    text.and_then(|text| script::parse(&text))
+    text.and_then(|text| script::parse(&text, source.folder()))
         .map_err(|fault| Failure::Input(fault.in_file(&source.name())))
 }
 
@@ -109,7 +156,11 @@ fn save(out: &mut impl Write, svg: &str, file: &OsStr) -> Result<(), Failure> {
     if file == "-" {
         return Ok(out.write_all(svg.as_bytes())?);
     }
-    fs::write(file, svg).map_err(|error| {
+    write_file(file, svg.as_bytes())
+}
+
+fn write_file(file: &OsStr, bytes: &[u8]) -> Result<(), Failure> {
+    fs::write(file, bytes).map_err(|error| {
         let name = file.to_string_lossy();
         Failure::Output(format!("{name}: cannot be written: {error}"))
     })

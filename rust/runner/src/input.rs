@@ -4,6 +4,7 @@ use crate::script::Fault;
 use std::ffi::OsString;
 use std::fs::File;
 use std::io::{self, Read};
+use std::path::Path;
 
 /// No kernel is this long; a limit keeps a wrong file name from filling the host's memory.
 const MAX_BYTES: u64 = 16 << 20;
@@ -22,6 +23,14 @@ impl Source {
             Source::Example => "built-in example".to_string(),
             Source::StandardInput => "standard input".to_string(),
             Source::File(name) => name.to_string_lossy().into_owned(),
+        }
+    }
+
+    /// Where files are that the script names: in its own folder.
+    pub fn folder(&self) -> &Path {
+        match self {
+            Source::Example | Source::StandardInput => Path::new(""),
+            Source::File(name) => Path::new(name).parent().unwrap_or(Path::new("")),
         }
     }
 

@@ -26,4 +26,5 @@ mod script;
 mod take;
 mod taken;
 mod tile;
+mod verdict;
 mod wording;

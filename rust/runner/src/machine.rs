@@ -1,8 +1,14 @@
 //! The simulated machine: settings, registers, the array and memory.
 
+use crate::access::first_address;
 use crate::operation::Parts;
-use crate::script::{Action, Place, Script};
-use sme_move::{decode, Operation, Refusal, Settings, State};
+use crate::script::{Action, Place, Script, Subject};
+use sme_move::{decode, Direction, Operation, Refusal, Settings, State};
+use std::borrow::Cow;
+use std::ops::Range;
+
+/// How many bytes of memory are shown as a row.
+pub const MEMORY_ROW: usize = 16;
 
 pub struct Machine {
     pub settings: Settings,
@@ -16,8 +22,18 @@ pub struct Execution {
     pub operation: Result<Operation, Refusal>,
     pub answer: Result<(), Refusal>,
     pub state_before: State,
-    /// Memory before a store; empty for other words, which leave memory alone, loads included.
+    /// The rows of memory that a store may reach, as they were before it. There are none for other words, which
+    /// leave memory alone, loads included.
     pub memory_before: Vec<u8>,
+    /// Where these rows begin in memory.
+    pub memory_start: usize,
+}
+
+impl Execution {
+    /// The rows of memory that a store may reach, as they are after it.
+    pub fn memory_after<'a>(&self, machine: &'a Machine) -> &'a [u8] {
+        &machine.memory[self.memory_start..][..self.memory_before.len()]
+    }
 }
 
 impl Machine {
@@ -34,8 +50,8 @@ impl Machine {
         self.settings.vector_bytes as usize
     }
 
-    /// Does a step of the script; there is an execution to show if it is a word.
-    pub fn perform(&mut self, action: &Action) -> Option<Execution> {
+    /// Does a step of the script that sets contents; words and expectations set none.
+    pub fn set(&mut self, action: &Action) {
         match action {
             Action::Register { number, value } => self.state.x[*number] = *value,
             Action::Content {
@@ -43,9 +59,9 @@ impl Machine {
                 number,
                 bytes,
             } => self.member_mut(*place, *number).copy_from_slice(bytes),
-            Action::Word(word) => return Some(self.execute(*word)),
+            Action::Array(bytes) => self.state.za.copy_from_slice(bytes),
+            Action::Word(_) | Action::Expect(_) => {}
         }
-        None
     }
 
     /// A vector register, a predicate or a vector of the array.
@@ -62,14 +78,47 @@ impl Machine {
         }
     }
 
-    fn execute(&mut self, word: u32) -> Execution {
+    /// So many bytes of what an expectation is about. They are in memory, which was checked before.
+    pub fn bytes(&self, subject: Subject, length: usize) -> Cow<'_, [u8]> {
+        match subject {
+            Subject::Memory { address } => {
+                let start = (address - self.settings.memory_address) as usize;
+                self.memory[start..start + length].into()
+            }
+            Subject::Vector(number) => self.member(Place::Vector, number).into(),
+            Subject::Array(number) => self.member(Place::Array, number).into(),
+            Subject::Slice {
+                tile,
+                direction: Direction::Horizontal,
+                slice,
+            } => self.member(Place::Array, tile.vector(slice)).into(),
+            Subject::Slice { tile, slice, .. } => {
+                let column = slice * tile.element_bytes;
+                let element = |number| {
+                    let row = self.member(Place::Array, tile.vector(number));
+                    row[column..column + tile.element_bytes].iter().copied()
+                };
+                (0..tile.slices()).flat_map(element).collect()
+            }
+        }
+    }
+
+    /// A row of memory, and its address as it is shown.
+    pub fn memory_row(&self, row: usize) -> &[u8] {
+        let start = row * MEMORY_ROW;
+        &self.memory[start..self.memory.len().min(start + MEMORY_ROW)]
+    }
+
+    pub fn row_address(&self, row: usize) -> String {
+        let start = self.settings.memory_address;
+        format!("{:016X}", start.wrapping_add((row * MEMORY_ROW) as u64))
+    }
+
+    pub fn execute(&mut self, word: u32) -> Execution {
         let operation = decode(word, self.settings.level);
-        let stores = operation.is_ok_and(|operation| Parts::of(operation).stores());
-        let memory_before = if stores {
-            self.memory.clone()
-        } else {
-            Vec::new()
-        };
+        let reach = operation.map_or(0..0, |operation| self.stored(Parts::of(operation)));
+        let memory_start = reach.start;
+        let memory_before = self.memory[reach].to_vec();
         let state_before = self.state.clone();
         let answer = self.state.execute(self.settings, word, &mut self.memory);
         Execution {
@@ -78,7 +127,28 @@ impl Machine {
             answer,
             state_before,
             memory_before,
+            memory_start,
         }
+    }
+
+    /// The rows of memory that a store may reach: those with the addresses of its slice, which is one vector long.
+    /// To compare all of a large memory would take most of the time of a run.
+    fn stored(&self, parts: Parts) -> Range<usize> {
+        let Some(access) = parts.access.filter(|access| access.stores) else {
+            return 0..0;
+        };
+        let first = first_address(access, &self.state.x);
+        let start = first.wrapping_sub(self.settings.memory_address);
+        let end = start.wrapping_add(self.settings.vector_bytes);
+        let length = self.memory.len() as u64;
+        // A slice that begins below memory's first byte may wrap into it.
+        let start = if end < start { 0 } else { start };
+        if start >= length {
+            return 0..0;
+        }
+        let row = MEMORY_ROW as u64;
+        let (start, end) = (start / row * row, end.next_multiple_of(row).min(length));
+        start as usize..end as usize
     }
 }
 
@@ -95,14 +165,13 @@ pub fn member(state: &State, place: Place, number: usize, vector_bytes: usize) -
 #[cfg(test)]
 mod tests {
     use super::*;
-    use crate::access::first_address;
     use crate::script::parse;
     use crate::taken::{active_elements, Taken};
-    use sme_move::Direction;
+    use std::path::Path;
 
     fn machine(vector_bytes: usize) -> Machine {
         let text = format!("vector-bytes {vector_bytes}\nword C0000000\n");
-        let mut machine = Machine::new(&parse(&text).expect("a good script"));
+        let mut machine = Machine::new(&parse(&text, Path::new("")).expect("a good script"));
         machine.state.x.fill(0x1_0000_0007);
         machine
     }
@@ -250,6 +319,46 @@ mod tests {
                 assert!(machine.memory == memory && done.memory_before.is_empty());
             }
         }
+    }
+
+    /// Whatever the place of a store in memory, or over its ends: all that it changes is in what is kept.
+    #[test]
+    fn what_is_kept_of_memory_has_all_that_a_store_changes() {
+        for vector_bytes in [16, 256] {
+            for (below, above) in [(0, 0), (40, 100), (16, 1), (1, 64), (1000, 3)] {
+                for word in [0xE02E2041, 0xE071D52E, 0xE1F55D4B] {
+                    let mut machine = machine_for(word, vector_bytes);
+                    let address = machine.settings.memory_address.wrapping_sub(below);
+                    machine.settings = machine.settings.with_memory_address(address);
+                    machine.memory = vec![0; below as usize + vector_bytes + above];
+                    let mut expected = machine.memory.clone();
+                    let done = machine.execute(word);
+                    assert_eq!(done.answer, Ok(()));
+                    let kept = done.memory_start..done.memory_start + done.memory_before.len();
+                    expected[kept].copy_from_slice(done.memory_after(&machine));
+                    assert!(machine.memory == expected && expected.iter().any(|&byte| byte != 0));
+                    assert!(done.memory_before.len() <= vector_bytes + 2 * MEMORY_ROW);
+                }
+            }
+        }
+    }
+
+    /// A slice that begins at the last addresses goes on at address 0.
+    #[test]
+    fn what_is_kept_of_memory_is_right_where_addresses_wrap() {
+        let text = "vector-bytes 16\nmemory 00000000000000000000000000000000\n\
+                    predicate 0 F0FF\nregister 1 FFFFFFFFFFFFFFFC\nword 00000000\n";
+        let script = parse(text, Path::new("")).expect("a good script");
+        let mut machine = Machine::new(&script);
+        script
+            .steps
+            .iter()
+            .for_each(|step| machine.set(&step.action));
+        machine.state.za.fill(7);
+        let done = machine.execute(0xE03F0020);
+        assert_eq!(done.answer, Ok(()));
+        assert_eq!((done.memory_start, done.memory_before.len()), (0, 16));
+        assert_eq!(machine.memory, [[7; 12].as_slice(), &[0; 4]].concat());
     }
 
     /// A store is checked by memory.

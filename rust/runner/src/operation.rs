@@ -102,8 +102,4 @@ impl Parts {
             access: None,
         }
     }
-
-    pub fn stores(&self) -> bool {
-        self.access.is_some_and(|access| access.stores)
-    }
 }

@@ -1,5 +1,6 @@
-//! What is printed for one word.
+//! What is printed of a run: everything, or in brief.
 
+mod brief;
 mod grids;
 
 use crate::access;
@@ -7,29 +8,100 @@ use crate::grid::Grid;
 use crate::machine::{Execution, Machine};
 use crate::operation::{Access, Parts, Reach};
 use crate::paint::{Style, View};
+use crate::run::{Checked, Executed, Observer, Tally};
 use crate::script::Place;
 use crate::taken::{active_elements, index_value, modulus, Taken};
 use crate::wording::{self, counted, direction_name, list, ranges};
 use sme_move::Operation;
 use std::io::{self, Write};
 
-/// Where a word stands: its number among the words, from 1, and its line.
-pub struct Position {
-    pub number: usize,
-    pub line: usize,
+pub use brief::Brief;
+
+/// Prints everything about each word.
+pub struct Report<'a, W> {
+    pub out: W,
+    pub view: &'a View,
+    /// The script's name, with which failures begin.
+    pub name: &'a str,
+}
+
+impl<W: Write> Observer for Report<'_, W> {
+    fn start(&mut self, machine: &Machine) -> io::Result<()> {
+        writeln!(self.out, "{}", settings(machine))?;
+        writeln!(self.out, "{BYTE_ORDER}\n")
+    }
+
+    fn word(&mut self, executed: &Executed, machine: &Machine) -> io::Result<()> {
+        word(&mut self.out, self.view, executed, machine)?;
+        brief::refusal(&mut self.out, self.name, executed)?;
+        match executed.failure {
+            Some(_) => writeln!(self.out),
+            None => Ok(()),
+        }
+    }
+
+    fn expectation(&mut self, checked: &Checked) -> io::Result<()> {
+        match checked.difference {
+            None => writeln!(self.out, "line {}: {}", checked.line, checked.headline())?,
+            Some(_) => brief::difference(&mut self.out, self.name, checked)?,
+        }
+        writeln!(self.out)
+    }
+
+    fn end(&mut self, tally: &Tally, machine: &Machine) -> io::Result<()> {
+        let registers: Vec<usize> = tally.registers.iter().copied().collect();
+        let rows: Vec<usize> = tally.memory_rows.iter().copied().collect();
+        let registers = grids::of_final_registers(machine, &registers);
+        let memory = grids::of_final_memory(machine, &rows);
+        for grid in [registers, memory] {
+            if !grid.rows.is_empty() {
+                draw(&mut self.out, self.view, &grid)?;
+                writeln!(self.out)?;
+            }
+        }
+        writeln!(self.out, "{}", tally.summary())
+    }
+}
+
+/// How elements are to be read, of which only bytes are shown.
+const BYTE_ORDER: &str =
+    "bytes are shown lowest first, so a 4-byte element 78563412 has the value 12345678";
+
+fn settings(machine: &Machine) -> String {
+    let on = |switch| if switch { "on" } else { "off" };
+    let settings = machine.settings;
+    let memory = match machine.memory.len() {
+        0 => "no memory".to_string(),
+        length => format!(
+            "{} of memory from address {:016X}",
+            counted(length, "byte"),
+            settings.memory_address
+        ),
+    };
+    format!(
+        "vectors of {} bytes, level {}, streaming {}, array {}, {memory}",
+        settings.vector_bytes,
+        settings.level,
+        on(settings.streaming),
+        on(settings.za)
+    )
 }
 
 /// Prints everything about a word that was just executed on the machine.
-pub fn word(
+fn word(
     out: &mut impl Write,
     view: &View,
-    position: Position,
-    execution: &Execution,
+    executed: &Executed,
     machine: &Machine,
 ) -> io::Result<()> {
-    let title = format!("word {}: {:08X}", position.number, execution.word);
+    let execution = executed.execution;
+    let title = format!("word {}: {:08X}", executed.number, execution.word);
     let title = view.paint.text(Style::Heading, &title);
-    writeln!(out, "{title} (line {})", position.line)?;
+    let place = match executed.file_byte {
+        None => format!("line {}", executed.line),
+        Some(byte) => format!("line {}, byte {byte} of the file", executed.line),
+    };
+    writeln!(out, "{title} ({place})")?;
     match execution.operation {
         Ok(operation) => {
             decoded(out, operation)?;
@@ -49,20 +121,6 @@ pub fn word(
             draw(out, view, &grid)?;
         }
     }
-    writeln!(out)
-}
-
-/// Prints the vector registers that words of the script changed, so that one sees them together.
-pub fn ending(
-    out: &mut impl Write,
-    view: &View,
-    registers: &[usize],
-    machine: &Machine,
-) -> io::Result<()> {
-    if registers.is_empty() {
-        return Ok(());
-    }
-    draw(out, view, &grids::of_final_registers(machine, registers))?;
     writeln!(out)
 }
 
@@ -173,7 +231,10 @@ fn changed(execution: &Execution, machine: &Machine) -> String {
     let parts: Vec<String> = [
         ("the array", count(&before.za, &machine.state.za)),
         ("vector registers", count(&before.z, &machine.state.z)),
-        ("memory", count(&execution.memory_before, &machine.memory)),
+        (
+            "memory",
+            count(&execution.memory_before, execution.memory_after(machine)),
+        ),
     ]
     .into_iter()
     .filter(|&(_, bytes)| bytes > 0)

@@ -1,12 +1,15 @@
-//! A script: settings, first contents, and words in order, all checked before anything is run.
+//! A script: settings, first contents, words and expectations in order, all checked before anything is run.
 
 mod draft;
+mod expect;
+mod files;
 mod parser;
 
 use sme_move::Settings;
 use std::ops::Range;
 
 pub use draft::vector_bytes;
+pub use expect::{Expectation, Subject};
 pub use parser::parse;
 
 /// A script without faults.
@@ -34,7 +37,31 @@ pub enum Action {
         number: usize,
         bytes: Vec<u8>,
     },
-    Word(u32),
+    /// Every vector of the array.
+    Array(Vec<u8>),
+    Word(Word),
+    Expect(Expectation),
+}
+
+/// A word to execute.
+#[derive(Clone, Copy, Debug, PartialEq)]
+pub struct Word {
+    pub word: u32,
+    /// Where it stands in a file of words, if it comes from one.
+    pub file_byte: Option<usize>,
+    /// Whether an expectation says which answer it gets, so that a refusal is no surprise.
+    pub answer_expected: bool,
+}
+
+impl Script {
+    /// The words in order, as a file of words has them.
+    pub fn words_as_bytes(&self) -> Vec<u8> {
+        let words = self.steps.iter().filter_map(|step| match step.action {
+            Action::Word(Word { word, .. }) => Some(word),
+            _ => None,
+        });
+        files::bytes_of(words)
+    }
 }
 
 /// What has numbered vectors or predicates of bytes.

@@ -27,6 +27,15 @@ fn wrong_command_lines_are_refused() {
         ),
         ("--level 2 kernel.txt", "--level goes only with --decode"),
         (
+            "--decode --strict 00000000",
+            "--strict goes only with a script",
+        ),
+        ("--map --quiet", "--quiet goes only with a script"),
+        (
+            "--take 1 --words-out a",
+            "--words-out goes only with a script",
+        ),
+        (
             "--map kernel.txt",
             "--map takes no file, but 'kernel.txt' is given",
         ),

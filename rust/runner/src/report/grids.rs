@@ -1,7 +1,7 @@
 //! The grids that show what a word did.
 
 use crate::grid::{Grid, Row};
-use crate::machine::{member, Execution, Machine};
+use crate::machine::{member, Execution, Machine, MEMORY_ROW};
 use crate::operation::Parts;
 use crate::script::Place;
 use crate::taken::Taken;
@@ -10,9 +10,6 @@ use sme_move::Direction;
 
 /// How many bytes stand together where there are no elements.
 const GROUP: usize = 4;
-
-/// How many bytes of memory are a row.
-const MEMORY_ROW: usize = 16;
 
 /// The array's part that the word takes, and the vector registers and the memory that changed.
 pub fn of<'a>(
@@ -114,18 +111,16 @@ fn of_registers<'a>(parts: Parts, execution: &'a Execution, machine: &'a Machine
 }
 
 fn of_memory<'a>(execution: &'a Execution, machine: &'a Machine) -> Grid<'a> {
-    let start = machine.settings.memory_address;
+    let first = execution.memory_start / MEMORY_ROW;
     let before = execution.memory_before.chunks(MEMORY_ROW);
-    let rows = before.zip(machine.memory.chunks(MEMORY_ROW)).enumerate();
+    let after = execution.memory_after(machine).chunks(MEMORY_ROW);
     let row = |(number, (before, after)): (usize, (&'a [u8], &'a [u8]))| Row {
-        labels: vec![format!(
-            "{:016X}",
-            start.wrapping_add((number * MEMORY_ROW) as u64)
-        )],
+        labels: vec![machine.row_address(first + number)],
         taken: false,
         before,
         after,
     };
+    let rows = before.zip(after).enumerate();
     Grid {
         title: "memory that changed".to_string(),
         headings: vec!["address"],
@@ -156,6 +151,27 @@ pub fn of_final_registers<'a>(machine: &'a Machine, numbers: &[usize]) -> Grid<'
         column: ("byte", GROUP),
         group: GROUP,
         rows: numbers.iter().map(row).collect(),
+        taken_group: None,
+    }
+}
+
+/// Rows of memory at the end of a script.
+pub fn of_final_memory<'a>(machine: &'a Machine, rows: &[usize]) -> Grid<'a> {
+    let row = |&number: &usize| {
+        let bytes = machine.memory_row(number);
+        Row {
+            labels: vec![machine.row_address(number)],
+            taken: false,
+            before: bytes,
+            after: bytes,
+        }
+    };
+    Grid {
+        title: "memory that words changed, at the end".to_string(),
+        headings: vec!["address"],
+        column: ("byte", GROUP),
+        group: GROUP,
+        rows: rows.iter().map(row).collect(),
         taken_group: None,
     }
 }

@@ -1,43 +1,60 @@
 //! The lines of a script.
 
 use super::draft::Draft;
-use super::{Action, Fault, Place, Script, Step};
-use crate::digits::{bytes, decimal, hexadecimal, shown, word};
+use super::expect::{member, member_bytes, Expectation};
+use super::files::{self, WORD_BYTES};
+use super::{Action, Fault, Place, Script, Step, Word};
+use crate::digits::{bytes, hexadecimal, shown, word};
+use crate::wording::counted;
 use sme_move::Settings;
+use std::path::Path;
 
-/// The most bytes that memory may have.
-const MAX_MEMORY: usize = 1 << 20;
+/// The most bytes that memory may have, and the most words that a script may have: far more than a kernel
+/// needs, and little enough for a host's memory.
+const MAX_MEMORY: usize = 64 << 20;
+const MAX_WORDS: usize = 1 << 20;
 
-const STATEMENTS: &str = "vector-bytes, level, streaming, array, memory-address, register, \
-                          vector, predicate, memory, word";
+const STATEMENTS: &str =
+    "vector-bytes, level, streaming, array, memory-address, register, vector, \
+                          predicate, array-file, memory, memory-file, word, words-file, expect";
 
-#[derive(Default)]
-struct Parser {
+struct Parser<'a> {
     draft: Draft,
     /// The settings, from the first line on that is none.
     settings: Option<Settings>,
     memory: Vec<u8>,
     steps: Vec<Step>,
-    has_words: bool,
+    words: usize,
     line: usize,
+    /// Where files are that the script names.
+    folder: &'a Path,
 }
 
-/// The script that a text is, or its first fault.
-pub fn parse(text: &str) -> Result<Script, Fault> {
-    let mut parser = Parser::default();
+/// The script that a text is, or its first fault. Files that it names are in the folder.
+pub fn parse(text: &str, folder: &Path) -> Result<Script, Fault> {
+    let mut parser = Parser {
+        draft: Draft::default(),
+        settings: None,
+        memory: Vec::new(),
+        steps: Vec::new(),
+        words: 0,
+        line: 0,
+        folder,
+    };
     for line in text.lines() {
         parser.line += 1;
         parser
             .statement(line)
             .map_err(|message| Fault::of_line(parser.line, message))?;
     }
-    let line = parser.line;
+    // A text without lines has its fault where the first would be.
+    let line = parser.line.max(1);
     parser
         .finish()
         .map_err(|message| Fault::of_line(line, message))
 }
 
-impl Parser {
+impl Parser<'_> {
     fn statement(&mut self, line: &str) -> Result<(), String> {
         // A stray carriage return or escape would make the line look other than it is read.
         if let Some(control) = line.chars().find(|&c| c.is_control() && c != '\t') {
@@ -56,8 +73,12 @@ impl Parser {
             ("vector", _) => self.content(Place::Vector, values),
             ("predicate", _) => self.content(Place::Predicate, values),
             ("array", _) => self.content(Place::Array, values),
+            ("array-file", _) => self.array_file(path(content)?),
             ("memory", _) => self.memory(values),
+            ("memory-file", _) => self.memory_file(path(content)?),
             ("word", _) => self.words(values),
+            ("words-file", _) => self.words_file(path(content)?),
+            ("expect", _) => self.expect(values),
             _ => {
                 let name = shown(name);
                 Err(format!("'{name}' is no statement; there are {STATEMENTS}"))
@@ -99,19 +120,7 @@ impl Parser {
 
     fn content(&mut self, place: Place, values: &[&str]) -> Result<(), String> {
         let vector_bytes = self.settled()?.vector_bytes as usize;
-        let name = place.member();
-        let length = place.member_bytes(vector_bytes);
-        let Some((number, tokens)) = values.split_first() else {
-            return Err(format!("a {name} takes its number and {length} bytes"));
-        };
-        let number = member(name, place.members(vector_bytes), number)?;
-        let bytes = bytes(tokens)?;
-        if bytes.len() != length {
-            let found = bytes.len();
-            return Err(format!(
-                "a {name} has exactly {length} bytes here, not {found}"
-            ));
-        }
+        let (number, bytes) = member_bytes(place, values, vector_bytes)?;
         self.step(Action::Content {
             place,
             number,
@@ -120,11 +129,20 @@ impl Parser {
         Ok(())
     }
 
-    fn memory(&mut self, values: &[&str]) -> Result<(), String> {
-        self.settled()?;
-        if self.has_words {
-            return Err("'memory' comes before the first word".to_string());
+    fn array_file(&mut self, name: &str) -> Result<(), String> {
+        let vector_bytes = self.settled()?.vector_bytes as usize;
+        let length = vector_bytes * vector_bytes;
+        let bytes = files::contents(self.folder, name, length)?;
+        if bytes.len() != length {
+            let (name, found) = (shown(name), counted(bytes.len(), "byte"));
+            return Err(format!("'{name}' has {found}; the array has {length}"));
         }
+        self.step(Action::Array(bytes));
+        Ok(())
+    }
+
+    fn memory(&mut self, values: &[&str]) -> Result<(), String> {
+        self.memory_may_grow("memory")?;
         if values.is_empty() {
             return Err("'memory' takes one or more bytes".to_string());
         }
@@ -135,16 +153,72 @@ impl Parser {
         Ok(())
     }
 
+    fn memory_file(&mut self, name: &str) -> Result<(), String> {
+        self.memory_may_grow("memory-file")?;
+        let room = MAX_MEMORY - self.memory.len();
+        self.memory
+            .extend(files::contents(self.folder, name, room)?);
+        Ok(())
+    }
+
+    /// What a word finds in memory must not depend on a later line.
+    fn memory_may_grow(&mut self, statement: &str) -> Result<(), String> {
+        self.settled()?;
+        match self.words {
+            0 => Ok(()),
+            _ => Err(format!("'{statement}' comes before the first word")),
+        }
+    }
+
     fn words(&mut self, values: &[&str]) -> Result<(), String> {
         self.settled()?;
         if values.is_empty() {
             return Err("'word' takes one or more words of eight digits".to_string());
         }
         for value in values {
-            let word = word(value)?;
-            self.step(Action::Word(word));
+            self.word(word(value)?, None)?;
         }
-        self.has_words = true;
+        Ok(())
+    }
+
+    fn words_file(&mut self, name: &str) -> Result<(), String> {
+        self.settled()?;
+        let room = (MAX_WORDS - self.words) * WORD_BYTES;
+        let bytes = files::contents(self.folder, name, room)?;
+        for (number, word) in files::words(&bytes, name)?.into_iter().enumerate() {
+            self.word(word, Some(number * WORD_BYTES))?;
+        }
+        Ok(())
+    }
+
+    fn word(&mut self, word: u32, file_byte: Option<usize>) -> Result<(), String> {
+        if self.words == MAX_WORDS {
+            return Err(format!("a script has at most {MAX_WORDS} words"));
+        }
+        self.words += 1;
+        self.step(Action::Word(Word {
+            word,
+            file_byte,
+            answer_expected: false,
+        }));
+        Ok(())
+    }
+
+    fn expect(&mut self, values: &[&str]) -> Result<(), String> {
+        let settings = self.settled()?;
+        let expectation = Expectation::read(values, settings, self.memory.len())?;
+        if self.words == 0 {
+            return Err("'expect' comes after a word: it is about what words did".to_string());
+        }
+        if let Expectation::Answer { .. } = expectation {
+            let mut before = self.steps.iter_mut().rev();
+            let word = before.find_map(|step| match &mut step.action {
+                Action::Word(word) => Some(word),
+                _ => None,
+            });
+            word.expect("there is a word before").answer_expected = true;
+        }
+        self.step(Action::Expect(expectation));
         Ok(())
     }
 
@@ -155,7 +229,7 @@ impl Parser {
 
     fn finish(mut self) -> Result<Script, String> {
         let settings = self.settled()?;
-        if !self.has_words {
+        if self.words == 0 {
             return Err("the script ends without a word to execute".to_string());
         }
         Ok(Script {
@@ -166,15 +240,13 @@ impl Parser {
     }
 }
 
-/// The number of one of so many registers or vectors.
-fn member(name: &str, members: usize, text: &str) -> Result<usize, String> {
-    decimal(text)
-        .filter(|&number| number < members as u64)
-        .map(|number| number as usize)
-        .ok_or_else(|| {
-            let (text, last) = (shown(text), members - 1);
-            format!("'{text}' is no number of a {name}: 0 to {last}, in decimal")
-        })
+/// The name of a file: all that follows the statement's name. Blanks may be in it, but no #.
+fn path(content: &str) -> Result<&str, String> {
+    let content = content.trim_matches(|c: char| c.is_ascii_whitespace());
+    match content.split_once(|c: char| c.is_ascii_whitespace()) {
+        Some((_, name)) => Ok(name.trim_start_matches(|c: char| c.is_ascii_whitespace())),
+        None => Err(format!("'{content}' takes the name of a file")),
+    }
 }
 
 #[cfg(test)]

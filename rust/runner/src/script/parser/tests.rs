@@ -2,6 +2,10 @@
 
 use super::*;
 
+fn parse(text: &str) -> Result<Script, Fault> {
+    super::parse(text, Path::new(""))
+}
+
 /// The message about a script, where B stands for the lines that make vectors of 16 bytes.
 fn fault(text: &str) -> String {
     let text = text.replace("B;", "vector-bytes 16;").replace(';', "\n");
@@ -135,9 +139,6 @@ fn memory_is_checked() {
             "k:3: 'memory' comes before the first word",
         ),
     ]);
-    let megabyte = "00".repeat(MAX_MEMORY);
-    let text = format!("B;memory {megabyte};memory 00");
-    assert_eq!(fault(&text), "k:3: memory has at most 1048576 bytes");
 }
 
 #[test]
@@ -161,6 +162,168 @@ fn words_are_checked() {
             "k:3: the script ends without a word to execute",
         ),
     ]);
+}
+
+#[test]
+fn expectations_are_checked() {
+    faults(&[
+        (
+            "B;word 00000000;expect",
+            "k:3: 'expect' is followed by answer, memory",
+        ),
+        (
+            "B;word 00000000;expect predicate 0 0000",
+            "k:3: 'expect' is followed by answer, memory, vector, array or tile, not 'predicate'",
+        ),
+        (
+            "B;expect vector 0 00000000000000000000000000000000",
+            "k:2: 'expect' comes after a word",
+        ),
+        ("expect answer 0", "k:1: 'vector-bytes' is missing"),
+    ]);
+    for (values, message) in [
+        ("answer", "'expect answer' takes a number, and with 7 also"),
+        (
+            "answer 7 10 20",
+            "'expect answer' takes a number, and with 7 also",
+        ),
+        ("answer 1", "'1' is no answer that a word of a script gets"),
+        ("answer 8", "'8' is no answer"),
+        ("answer 07", "'07' is no answer"),
+        ("answer 6 10", "only answer 7 has an address, and 6 none"),
+        ("answer 7 1G", "'1G' has 'G' in it"),
+        ("vector", "a vector register takes its number and 16 bytes"),
+        (
+            "vector 32",
+            "'32' is no number of a vector register: 0 to 31",
+        ),
+        (
+            "vector 0 00",
+            "a vector register has exactly 16 bytes here, not 1",
+        ),
+        (
+            "array 16 00",
+            "'16' is no number of a vector of the array: 0 to 15",
+        ),
+        ("array 1 0", "'0' has 1 digits"),
+    ] {
+        let found = fault(&format!("B;word 00000000;expect {values}"));
+        assert!(found.starts_with(&format!("k:3: {message}")), "{found}");
+    }
+}
+
+#[test]
+fn expectations_of_slices_and_memory_are_checked() {
+    let start = "B;memory-address 100;memory 00010203;word 00000000";
+    for (values, message) in [
+        (
+            "tile 4:1 horizontal",
+            "'expect tile' takes a tile such as 4:1",
+        ),
+        (
+            "tile 3:1 vertical 0 00",
+            "'3:1' is no tile: element bytes 1",
+        ),
+        ("tile 4:4 vertical 0 00", "'4:4' is no tile"),
+        ("tile 4 vertical 0 00", "'4' is no tile"),
+        (
+            "tile 4:1 row 0 00",
+            "a slice is horizontal or vertical, not 'row'",
+        ),
+        (
+            "tile 4:1 vertical 4 00",
+            "'4' is no number of a slice: 0 to 3",
+        ),
+        (
+            "tile 4:1 vertical 3 00",
+            "a slice has exactly 16 bytes here, not 1",
+        ),
+        (
+            "memory",
+            "'expect memory' takes an address and one or more bytes",
+        ),
+        (
+            "memory 100",
+            "'expect memory' takes one or more bytes after",
+        ),
+        ("memory 100 0", "'0' has 1 digits"),
+        (
+            "memory FF 00",
+            "1 bytes of memory from address 00000000000000FF are not all in memory, \
+             which has 4 from 0000000000000100 on",
+        ),
+        (
+            "memory 104 00",
+            "1 bytes of memory from address 0000000000000104",
+        ),
+        (
+            "memory 103 0000",
+            "2 bytes of memory from address 0000000000000103",
+        ),
+        (
+            "memory FFFFFFFFFFFFFFFF 0000",
+            "2 bytes of memory from address FFFF",
+        ),
+    ] {
+        let found = fault(&format!("{start};expect {values}"));
+        assert!(found.starts_with(&format!("k:5: {message}")), "{found}");
+    }
+    for values in [
+        "memory 100 00010203",
+        "memory 103 FF",
+        "tile 16:15 vertical 0 00112233445566778899AABBCCDDEEFF",
+    ] {
+        assert_eq!(fault(&format!("{start};expect {values}")), "no fault");
+    }
+}
+
+/// An expectation of an answer is about the word before, also where other lines stand between.
+#[test]
+fn a_word_knows_whether_its_answer_is_expected() {
+    let text = "vector-bytes 16\nword 00000000 00000001\nregister 1 1\nexpect answer 3\n\
+                word 00000002\nexpect vector 0 00000000000000000000000000000000\n\
+                word 00000003\nexpect answer 7 1f\n";
+    let script = parse(text).expect("a good script");
+    let words = script.steps.iter().filter_map(|step| match step.action {
+        Action::Word(word) => Some((word.word, word.answer_expected)),
+        _ => None,
+    });
+    let expected = [(0, false), (1, true), (2, false), (3, true)];
+    assert_eq!(words.collect::<Vec<_>>(), expected);
+    let last = script.steps.last().map(|step| &step.action);
+    let answer = Expectation::Answer {
+        number: 7,
+        address: Some(0x1F),
+    };
+    assert_eq!(last, Some(&Action::Expect(answer)));
+}
+
+#[test]
+fn files_are_named() {
+    faults(&[
+        (
+            "B;memory-file",
+            "k:2: 'memory-file' takes the name of a file",
+        ),
+        (
+            "B;words-file # none",
+            "k:2: 'words-file' takes the name of a file",
+        ),
+        (
+            "B;array-file \t",
+            "k:2: 'array-file' takes the name of a file",
+        ),
+        (
+            "B;word 00000000;memory-file a.bin",
+            "k:3: 'memory-file' comes before the first word",
+        ),
+        (
+            "B;words-file no such file",
+            "k:2: 'no such file' cannot be read: ",
+        ),
+        ("words-file a", "k:1: 'vector-bytes' is missing"),
+    ]);
+    assert_eq!(path("words-file  a b\t"), Ok("a b"));
 }
 
 #[test]
@@ -220,12 +383,19 @@ fn a_script_is_taken_in_as_it_stands() {
         number: 31,
         value: 16,
     };
+    let word = |word| {
+        Action::Word(Word {
+            word,
+            file_byte: None,
+            answer_expected: false,
+        })
+    };
     let expected = [
         (9, predicate),
-        (10, Action::Word(0xC0000000)),
-        (10, Action::Word(0xC0000001)),
+        (10, word(0xC0000000)),
+        (10, word(0xC0000001)),
         (11, register),
-        (12, Action::Word(0)),
+        (12, word(0)),
     ];
     assert_eq!(steps, expected);
 }
