@@ -71,6 +71,7 @@ fn settings_come_first() {
         ("B;word C0000000;array off", "k:3: 'array' is a setting"),
         ("level 3;register 1 2", "k:2: 'vector-bytes' is missing"),
         ("# nothing;", "k:1: 'vector-bytes' is missing"),
+        ("", "k:1: 'vector-bytes' is missing"),
     ]);
 }
 
@@ -341,6 +342,11 @@ fn lines_are_checked() {
         (
             "B;word C0000000\rword C0000000",
             "k:2: the line has a control character, '\\r'",
+        ),
+        // Only at the very start of a file is a byte order mark skipped.
+        (
+            "B;\u{feff}word C0000000",
+            "k:2: '\\u{feff}word' is no statement",
         ),
         (
             "B;word\u{a0}C0000000",
