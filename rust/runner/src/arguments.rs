@@ -8,16 +8,16 @@ use crate::wording::quoted;
 use sme_move::Tile;
 use std::ffi::{OsStr, OsString};
 
-/// How many columns a grid may have where nothing is said.
-const WIDTH: u64 = 120;
-
 pub enum Task {
     Help,
+    Version,
     Run(Running),
     Decode {
         level: u64,
         words: Vec<u32>,
     },
+    /// Groups of the eleven numbers of an operation.
+    Encode(Vec<[u8; 11]>),
     Map {
         sheet: Sheet,
     },
@@ -59,7 +59,8 @@ pub struct Sheet {
 pub struct Command {
     pub task: Task,
     pub color: ColorChoice,
-    pub width: usize,
+    /// How many columns a grid may have, where that is said.
+    pub width: Option<usize>,
     pub all: bool,
 }
 
@@ -71,8 +72,15 @@ struct Given {
     operands: Vec<OsString>,
 }
 
-const FLAGS: [&str; 6] = [
-    "--help", "--decode", "--map", "--all", "--strict", "--quiet",
+const FLAGS: [&str; 8] = [
+    "--help",
+    "--version",
+    "--decode",
+    "--encode",
+    "--map",
+    "--all",
+    "--strict",
+    "--quiet",
 ];
 const VALUES: [&str; 9] = [
     "--words-out",
@@ -111,7 +119,7 @@ pub fn parse(arguments: impl Iterator<Item = OsString>) -> Result<Command, Strin
     Ok(Command {
         task,
         color,
-        width: given.number("--width", WIDTH)? as usize,
+        width: given.width()?,
         all: given.has("--all"),
     })
 }
@@ -178,11 +186,23 @@ impl Given {
         number.ok_or_else(|| format!("{name} takes a decimal number, not {}", quoted(value)))
     }
 
+    fn width(&self) -> Result<Option<usize>, String> {
+        let number = match self.value("--width") {
+            None => return Ok(None),
+            Some(_) => self.number("--width", 0)?,
+        };
+        // A width above all that there is to show has no other effect.
+        Ok(Some(usize::try_from(number).unwrap_or(usize::MAX)))
+    }
+
     fn task(&self) -> Result<Task, String> {
         if self.has("--help") {
             return Ok(Task::Help);
         }
-        let tasks: Vec<&str> = ["--decode", "--map", "--take"]
+        if self.has("--version") {
+            return Ok(Task::Version);
+        }
+        let tasks: Vec<&str> = ["--decode", "--encode", "--map", "--take"]
             .into_iter()
             .filter(|name| self.given(name))
             .collect();
@@ -191,6 +211,7 @@ impl Given {
         }
         match tasks.as_slice() {
             ["--decode"] => self.decode(),
+            ["--encode"] => self.encode(),
             ["--map"] => self.map(),
             ["--take"] => self.take(),
             [one, other, ..] => Err(format!("{one} and {other} do not go together")),
@@ -219,6 +240,25 @@ impl Given {
             level: self.number("--level", 3)?,
             words: words.collect::<Result<_, _>>()?,
         })
+    }
+
+    fn encode(&self) -> Result<Task, String> {
+        self.without(&["--level"], "--decode")?;
+        self.without(&OF_SHEET, WITH_SHEET)?;
+        let numbers: Vec<u8> = self
+            .operands
+            .iter()
+            .map(|operand| small(operand))
+            .collect::<Result<_, _>>()?;
+        let (groups, rest) = (numbers.chunks_exact(11), numbers.len() % 11);
+        if numbers.is_empty() || rest != 0 {
+            let found = numbers.len();
+            return Err(format!(
+                "--encode takes the eleven numbers of each word, not {found} numbers"
+            ));
+        }
+        let group = |group: &[u8]| std::array::from_fn(|i| group[i]);
+        Ok(Task::Encode(groups.map(group).collect()))
     }
 
     fn map(&self) -> Result<Task, String> {
@@ -285,6 +325,16 @@ impl Given {
             file => Ok(file.map(OsStr::to_os_string)),
         }
     }
+}
+
+/// One of the eleven numbers of an operation. Whether there is such an operation is the unit's to answer.
+fn small(operand: &OsStr) -> Result<u8, String> {
+    let number = operand.to_str().and_then(decimal);
+    let number = number.and_then(|number| u8::try_from(number).ok());
+    number.ok_or_else(|| {
+        let operand = quoted(operand);
+        format!("--encode takes decimal numbers of at most 255, not {operand}")
+    })
 }
 
 /// A held tile. Whether it exists is the unit's to answer.

@@ -8,7 +8,7 @@ use crate::report::{Brief, Report};
 use crate::run::{Observer, Tally};
 use crate::script::{self, Script};
 use crate::take::Taking;
-use crate::{decoding, map, map_svg, run};
+use crate::{decoding, encoding, map, map_svg, run, version, width};
 use std::ffi::{OsStr, OsString};
 use std::fs;
 use std::io::{self, BufWriter, Write};
@@ -57,16 +57,22 @@ pub fn main(arguments: impl Iterator<Item = OsString>) -> ExitCode {
 fn perform(command: Command) -> Result<(), Failure> {
     let view = View {
         paint: Paint::chosen(command.color),
-        width: command.width,
+        width: command.width.unwrap_or_else(width::of_output),
         all: command.all,
     };
     let mut out = BufWriter::new(io::stdout().lock());
     match command.task {
         Task::Help => out.write_all(HELP.as_bytes())?,
+        Task::Version => out.write_all(version::text().as_bytes())?,
         Task::Run(running) => return run_script(&mut out, &view, &running),
         Task::Decode { level, words } => {
             for word in words {
                 decoding::print(&mut out, word, level, view.paint)?;
+            }
+        }
+        Task::Encode(groups) => {
+            for numbers in groups {
+                encoding::print(&mut out, numbers, view.paint)?;
             }
         }
         Task::Map { sheet } => show(

@@ -73,6 +73,30 @@ fn a_wrong_command_line_is_refused() {
 }
 
 #[test]
+fn numbers_are_encoded() {
+    let line = "--encode 1 4 1 2 1 13 3 5 0 0 1 4 0 0 0 3 8 0 11 0 0 2";
+    let output = run(&line.split(' ').collect::<Vec<_>>());
+    assert_eq!(output.status.code(), Some(0));
+    let expected = "C080ACA9\n  \
+         meaning  move to tile: 4-byte elements, tile 2, vertical; from vector register 5, predicate 3\n  \
+         fields   kind 1, element bytes 4, direction 1, tile 2, offset 1\n           \
+         index register 13, predicate 3, first vector register 5\n           \
+         base register 0, offset register 0, vector registers 1\n  \
+         decodes  to the same numbers, from level 1 on\n\
+         4 0 0 0 3 8 0 11 0 0 2\n  \
+         refused  8: no word has these numbers\n";
+    assert_eq!(String::from_utf8_lossy(&output.stdout), expected);
+}
+
+#[test]
+fn the_version_is_told() {
+    let output = run(&["--version"]);
+    assert_eq!(output.status.code(), Some(0));
+    let first = concat!("runner ", env!("CARGO_PKG_VERSION"), "\nsme_move ");
+    assert!(output.stdout.starts_with(first.as_bytes()));
+}
+
+#[test]
 fn colour_is_for_terminals_unless_asked_for() {
     let coloured = |arguments: &[&str]| piped(arguments, SCRIPT).stdout.contains(&0x1B);
     assert!(!coloured(&["-"]));

@@ -30,6 +30,31 @@ fn wrong_command_lines_are_refused() {
             "--decode --strict 00000000",
             "--strict goes only with a script",
         ),
+        (
+            "--encode",
+            "--encode takes the eleven numbers of each word, not 0 numbers",
+        ),
+        (
+            "--encode 1 4 1 2 1 13 3 5 0 0",
+            "--encode takes the eleven numbers of each word, not 10 numbers",
+        ),
+        (
+            "--encode 1 4 1 2 1 13 3 5 0 0 1 7",
+            "--encode takes the eleven numbers of each word, not 12 numbers",
+        ),
+        (
+            "--encode 1 4 1 2 1 13 3 5 0 0 256",
+            "--encode takes decimal numbers of at most 255, not '256'",
+        ),
+        (
+            "--encode 1 4 1 2 1 0D 3 5 0 0 1",
+            "--encode takes decimal numbers of at most 255, not '0D'",
+        ),
+        (
+            "--encode --decode",
+            "--decode and --encode do not go together",
+        ),
+        ("--encode --level 1", "--level goes only with --decode"),
         ("--map --quiet", "--quiet goes only with a script"),
         (
             "--take 1 --words-out a",
@@ -96,6 +121,11 @@ fn right_command_lines_are_understood() {
         "--take 4",
         "--take=4 2:0 8:3 --vector-bytes 32 --svg -",
         "--take 3 257:0 0:18446744073709551615",
+        "--encode 1 4 1 2 1 13 3 5 0 0 1",
+        "--encode 1 4 1 2 1 13 3 5 0 0 1 0 0 0 0 0 0 0 0 0 255 0",
+        "--width 18446744073709551615",
+        "--version",
+        "--strict --quiet kernel.txt --words-out a --memory-out b --array-out c",
         "--help anything",
     ] {
         assert_eq!(fault(line), "", "{line}");
