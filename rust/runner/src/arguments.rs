@@ -40,6 +40,7 @@ pub struct Running {
 pub enum Form {
     Full,
     Brief,
+    Json,
 }
 
 /// Files that get bytes at the end of a run.
@@ -72,7 +73,7 @@ struct Given {
     operands: Vec<OsString>,
 }
 
-const FLAGS: [&str; 8] = [
+const FLAGS: [&str; 9] = [
     "--help",
     "--version",
     "--decode",
@@ -81,6 +82,7 @@ const FLAGS: [&str; 8] = [
     "--all",
     "--strict",
     "--quiet",
+    "--json",
 ];
 const VALUES: [&str; 9] = [
     "--words-out",
@@ -99,9 +101,10 @@ const OF_SHEET: [&str; 2] = ["--vector-bytes", "--svg"];
 const WITH_SHEET: &str = "--map or --take";
 
 /// The options that only a script has.
-const OF_RUN: [&str; 5] = [
+const OF_RUN: [&str; 6] = [
     "--strict",
     "--quiet",
+    "--json",
     "--words-out",
     "--memory-out",
     "--array-out",
@@ -214,7 +217,7 @@ impl Given {
             ["--encode"] => self.encode(),
             ["--map"] => self.map(),
             ["--take"] => self.take(),
-            [one, other, ..] => Err(format!("{one} and {other} do not go together")),
+            [one, other, ..] => Err(together(one, other)),
             _ => self.run(),
         }
     }
@@ -302,9 +305,11 @@ impl Given {
                 return Err(format!("one file is enough; {} is more", quoted(second)))
             }
         };
-        let form = match self.has("--quiet") {
-            true => Form::Brief,
-            false => Form::Full,
+        let form = match (self.has("--quiet"), self.has("--json")) {
+            (false, false) => Form::Full,
+            (true, false) => Form::Brief,
+            (false, true) => Form::Json,
+            (true, true) => return Err(together("--quiet", "--json")),
         };
         Ok(Task::Run(Running {
             source,
@@ -351,6 +356,10 @@ fn tile(operand: &OsStr) -> Result<Tile, String> {
         element_bytes,
         number,
     })
+}
+
+fn together(one: &str, other: &str) -> String {
+    format!("{one} and {other} do not go together")
 }
 
 fn unknown(text: &str) -> String {

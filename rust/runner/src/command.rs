@@ -1,6 +1,7 @@
 //! What the program does, and its exit status.
 
 use crate::arguments::{self, Command, Form, Outputs, Running, Sheet, Task};
+use crate::document::Document;
 use crate::input::Source;
 use crate::machine::Machine;
 use crate::paint::{Paint, View};
@@ -107,6 +108,7 @@ fn run_script(out: &mut impl Write, view: &View, running: &Running) -> Result<()
         let observer: &mut dyn Observer = match running.form {
             Form::Full => &mut Report { out, view, name },
             Form::Brief => &mut Brief { out, name },
+            Form::Json => &mut Document::new(out, name),
         };
         run::run(observer, &script, running.strict)?
     };

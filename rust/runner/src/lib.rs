@@ -9,13 +9,16 @@
 
 mod access;
 mod arguments;
+mod changes;
 pub mod command;
 mod decoding;
 mod digits;
+mod document;
 mod drawing;
 mod encoding;
 mod grid;
 mod input;
+mod json;
 mod machine;
 mod map;
 mod map_svg;

@@ -55,6 +55,8 @@ fn wrong_command_lines_are_refused() {
             "--decode and --encode do not go together",
         ),
         ("--encode --level 1", "--level goes only with --decode"),
+        ("--map --json", "--json goes only with a script"),
+        ("--json --quiet", "--quiet and --json do not go together"),
         ("--map --quiet", "--quiet goes only with a script"),
         (
             "--take 1 --words-out a",
