@@ -130,6 +130,16 @@ fn nothing_is_said_in_assembler() {
     texts.extend(SCRIPTS.map(|name| read(&format!("tests/scripts/{name}.stdout"))));
     texts.extend(SCRIPTS.map(|name| read(&format!("tests/scripts/{name}.txt"))));
     texts.push(read("example.txt"));
+    texts.push(read("../../docs/RUNNER.md"));
+    texts.push(output(&["--version"]));
+    texts.push(output(&[
+        "--encode", "4", "0", "0", "0", "3", "8", "0", "11", "0", "0", "2",
+    ]));
+    for name in ["store", "load", "transpose"] {
+        let script = format!("../../examples/scripts/{name}.txt");
+        let file = format!("{}/{script}", env!("CARGO_MANIFEST_DIR"));
+        texts.extend([output(&["--json", &file]), output(&[&file]), read(&script)]);
+    }
     for text in texts {
         let mut words = text.split(|c: char| !c.is_ascii_alphanumeric());
         assert_eq!(words.find(|word| is_assembler(word)), None);

@@ -35,7 +35,17 @@ impl Random {
 /// A name and what it does to a file.
 pub type Kind = (&'static str, fn(&mut Vec<u8>, &mut Random));
 
-pub const KINDS: [Kind; 16] = [
+pub const KINDS: [Kind; 18] = [
+    ("mark of UTF-16", |file, random| {
+        let marks: [&[u8]; 2] = [b"\xFE\xFF", b"\xFF\xFE"];
+        put(file, 0..0, marks[random.below(2)]);
+    }),
+    ("mark of UTF-8", |file, random| {
+        // At the start it is no damage, and twice at the start it is.
+        let places = [0, place(file, random)];
+        let at = places[random.below(2)];
+        put(file, at..at, b"\xEF\xBB\xBF");
+    }),
     ("byte changed", |file, random| {
         let at = place(file, random);
         let byte = random.byte();
@@ -137,9 +147,35 @@ pub const KINDS: [Kind; 16] = [
     }),
 ];
 
-/// A script after one to three strokes of one kind.
-pub fn damaged(script: &str, kind: Kind, random: &mut Random) -> Vec<u8> {
-    let mut file = script.as_bytes().to_vec();
+/// Damage to a file that is no text.
+pub const BINARY_KINDS: [Kind; 6] = [
+    ("binary byte changed", |file, random| {
+        let (at, byte) = (place(file, random), random.byte());
+        put(file, at..at + 1, &[byte]);
+    }),
+    ("binary file truncated", |file, random| {
+        let at = place(file, random);
+        file.truncate(at);
+    }),
+    ("binary file emptied", |file, _| file.clear()),
+    ("binary file longer", |file, random| {
+        let length = 1 + random.below(300);
+        let noise: Vec<u8> = (0..length).map(|_| random.byte()).collect();
+        file.extend(noise);
+    }),
+    ("binary bytes lost", |file, random| {
+        let (at, length) = (place(file, random), 1 + random.below(8));
+        put(file, at..at + length, &[]);
+    }),
+    ("binary file huge", |file, random| {
+        // More words and more of the array than there may be; as memory it is still allowed.
+        file.resize((4 << 20) + 4 + random.below(9), 0);
+    }),
+];
+
+/// A file after one to three strokes of one kind.
+pub fn damaged(file: &[u8], kind: Kind, random: &mut Random) -> Vec<u8> {
+    let mut file = file.to_vec();
     for _ in 0..=random.below(3) {
         (kind.1)(&mut file, random);
     }

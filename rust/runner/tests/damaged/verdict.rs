@@ -8,6 +8,8 @@ pub enum Verdict {
     Refused,
     /// Status 0, output, no message.
     Ran,
+    /// Status 3, output, one message with file and line: an expectation is not met.
+    Failed,
 }
 
 /// The verdict on a run, or what is wrong with it. Only of an empty file can no line be named.
@@ -22,7 +24,9 @@ pub fn judge(output: &Output, name: &str, empty: bool) -> Result<Verdict, String
         Some(0) => Ok(Verdict::Ran),
         Some(2) if !output.stdout.is_empty() => Err("status 2 with output".to_string()),
         Some(2) if is_fault(&message, name, empty) => Ok(Verdict::Refused),
-        Some(2) => Err(format!("a message of another form: {message}")),
+        Some(3) if output.stdout.is_empty() => Err("status 3 without output".to_string()),
+        Some(3) if is_fault(&message, name, false) => Ok(Verdict::Failed),
+        Some(2 | 3) => Err(format!("a message of another form: {message}")),
         // No code means that a signal ended it.
         _ => Err(format!("{}: {message}", output.status)),
     }
@@ -68,6 +72,7 @@ mod tests {
         let good = "k.txt:7: a word has exactly eight digits\n";
         assert_eq!(verdict(2 << 8, "", good), Ok(Verdict::Refused));
         assert_eq!(verdict(0, "done\n", ""), Ok(Verdict::Ran));
+        assert_eq!(verdict(3 << 8, "done\n", good), Ok(Verdict::Failed));
         for (status, stdout, stderr) in [
             (101 << 8, "", "thread 'main' panicked at src/main.rs:1:1:\n"),
             (101 << 8, "", good),
@@ -86,6 +91,8 @@ mod tests {
             (2 << 8, "", "other.txt:7: a word has exactly eight digits\n"),
             (2 << 8, "", "k.txt:7: a word has exactly\neight digits\n"),
             (2 << 8, "", "k.txt:7: a word has \u{1b}[31m digits\n"),
+            (3 << 8, "", good),
+            (3 << 8, "done\n", ""),
             (0, "done\n", good),
             (0, "", ""),
         ] {
