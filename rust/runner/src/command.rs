@@ -8,7 +8,7 @@ use crate::paint::{Paint, View};
 use crate::report::{Brief, Report};
 use crate::run::{Observer, Tally};
 use crate::script::{self, Script};
-use crate::take::Taking;
+use crate::take::Asked;
 use crate::{decoding, encoding, map, map_svg, run, version, width};
 use std::ffi::{OsStr, OsString};
 use std::fs;
@@ -62,38 +62,33 @@ fn perform(command: Command) -> Result<(), Failure> {
         all: command.all,
     };
     let mut out = BufWriter::new(io::stdout().lock());
+    let paint = view.paint;
     match command.task {
         Task::Help => out.write_all(HELP.as_bytes())?,
         Task::Version => out.write_all(version::text().as_bytes())?,
         Task::Run(running) => return run_script(&mut out, &view, &running),
         Task::Decode { level, words } => {
             for word in words {
-                decoding::print(&mut out, word, level, view.paint)?;
+                decoding::print(&mut out, word, level, paint)?;
             }
         }
         Task::Encode(groups) => {
             for numbers in groups {
-                encoding::print(&mut out, numbers, view.paint)?;
+                encoding::print(&mut out, numbers, paint)?;
             }
         }
-        Task::Map { sheet } => show(
-            &mut out,
-            &sheet,
-            |out, vector_bytes| map::print(out, vector_bytes, view.paint),
-            map_svg::svg,
-        )?,
-        Task::Take {
-            element_bytes,
+        Task::Map { sheet } => {
+            let print = |out: &mut _, vector_bytes| map::print(out, vector_bytes, paint);
+            show(&mut out, &sheet, print, map_svg::svg)?
+        }
+        Task::Ask {
+            question,
             held,
             sheet,
         } => {
-            let taking = Taking::ask(element_bytes, held);
-            show(
-                &mut out,
-                &sheet,
-                |out, vector_bytes| taking.print(out, vector_bytes, view.paint),
-                |vector_bytes| taking.svg(vector_bytes),
-            )?
+            let asked = Asked::new(question, held);
+            let print = |out: &mut _, vector_bytes| asked.print(out, vector_bytes, paint);
+            show(&mut out, &sheet, print, |bytes| asked.svg(bytes))?
         }
     }
     Ok(out.flush()?)

@@ -1,5 +1,6 @@
 //! Where the tiles lie in the array.
 
+use crate::digits::decimal;
 use std::fmt::Display;
 
 /// The sizes of elements, in bytes. There are as many tiles of a size as it has bytes.
@@ -51,6 +52,15 @@ impl Tile {
     pub fn name(self) -> String {
         name(self.element_bytes, self.number)
     }
+}
+
+/// The tile that two decimal numbers name, element bytes and number with a colon between, whether or not there is one.
+pub fn named(text: &str) -> Option<sme_move::Tile> {
+    let (element_bytes, number) = text.split_once(':')?;
+    Some(sme_move::Tile {
+        element_bytes: decimal(element_bytes)?,
+        number: decimal(number)?,
+    })
 }
 
 /// What a tile with these numbers is called, also where there is none.

@@ -127,6 +127,7 @@ fn nothing_is_said_in_assembler() {
     ]));
     texts.push(output(&TAKE));
     texts.push(output(&["--take", "16", "8:3", "4:3", "257:0"]));
+    texts.push(output(&["--give-up", "8:3", "2:0", "8:3"]));
     texts.extend(SCRIPTS.map(|name| read(&format!("tests/scripts/{name}.stdout"))));
     texts.extend(SCRIPTS.map(|name| read(&format!("tests/scripts/{name}.txt"))));
     texts.push(read("example.txt"));

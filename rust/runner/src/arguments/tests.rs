@@ -19,11 +19,11 @@ fn wrong_command_lines_are_refused() {
         ("--decode", "--decode takes one or more words"),
         (
             "--decode --svg a.svg C0000000",
-            "--svg goes only with --map or --take",
+            "--svg goes only with --map, --take or --give-up",
         ),
         (
             "--vector-bytes 32 kernel.txt",
-            "--vector-bytes goes only with --map or --take",
+            "--vector-bytes goes only with --map, --take or --give-up",
         ),
         ("--level 2 kernel.txt", "--level goes only with --decode"),
         (
@@ -82,6 +82,15 @@ fn wrong_requests_for_a_tile_are_refused() {
             "--take 4 --decode 4:1",
             "--decode and --take do not go together",
         ),
+        (
+            "--take 4 --give-up 4:1",
+            "--take and --give-up do not go together",
+        ),
+        ("--give-up", "--give-up takes a value"),
+        (
+            "--give-up 4",
+            "a tile to give up is its element bytes and its number, such as 4:1, not '4'",
+        ),
         ("--take", "--take takes a value"),
         ("--take 4 --take 2", "--take is given twice"),
         ("--take 4:1", "--take takes a decimal number, not '4:1'"),
@@ -123,6 +132,8 @@ fn right_command_lines_are_understood() {
         "--take 4",
         "--take=4 2:0 8:3 --vector-bytes 32 --svg -",
         "--take 3 257:0 0:18446744073709551615",
+        "--give-up 8:3 2:0 8:3 --vector-bytes 32 --svg -",
+        "--give-up=9:9",
         "--encode 1 4 1 2 1 13 3 5 0 0 1",
         "--encode 1 4 1 2 1 13 3 5 0 0 1 0 0 0 0 0 0 0 0 0 255 0",
         "--width 18446744073709551615",
@@ -137,8 +148,8 @@ fn right_command_lines_are_understood() {
 #[test]
 fn held_tiles_are_taken_in_as_they_are() {
     let line = ["--take", "5", "8:3", "0:18446744073709551615", "8:3"];
-    let Ok(Task::Take {
-        element_bytes,
+    let Ok(Task::Ask {
+        question,
         held,
         sheet,
     }) = parse(line.into_iter().map(OsString::from)).map(|command| command.task)
@@ -150,8 +161,6 @@ fn held_tiles_are_taken_in_as_they_are() {
         .map(|tile| (tile.element_bytes, tile.number))
         .collect();
     assert_eq!(numbers, [(8, 3), (0, u64::MAX), (8, 3)]);
-    assert_eq!(
-        (element_bytes, sheet.vector_bytes, sheet.drawing),
-        (5, 16, None)
-    );
+    assert_eq!(question, Question::Take { element_bytes: 5 });
+    assert_eq!((sheet.vector_bytes, sheet.drawing), (16, None));
 }

@@ -2,7 +2,7 @@
 
 use super::Place;
 use crate::digits::{bytes, decimal, hexadecimal, shown};
-use crate::tile::Tile;
+use crate::tile::{named, Tile};
 use crate::wording::direction_name;
 use sme_move::{Direction, Settings};
 
@@ -129,10 +129,10 @@ fn memory(values: &[&str], start: u64, memory_bytes: usize) -> Result<Expectatio
 }
 
 fn slice(values: &[&str], vector_bytes: usize) -> Result<Expectation, String> {
-    let [named, way, number, tokens @ ..] = values else {
+    let [name, way, number, tokens @ ..] = values else {
         return Err(TILE_FORM.to_string());
     };
-    let tile = tile(named, vector_bytes)?;
+    let tile = tile(name, vector_bytes)?;
     let direction = match *way {
         "horizontal" => Direction::Horizontal,
         "vertical" => Direction::Vertical,
@@ -153,14 +153,8 @@ fn slice(values: &[&str], vector_bytes: usize) -> Result<Expectation, String> {
 
 /// A tile that exists, by its element bytes and its number.
 fn tile(text: &str, vector_bytes: usize) -> Result<Tile, String> {
-    let numbers = text.split_once(':');
-    let numbers = numbers.and_then(|(size, number)| Some((decimal(size)?, decimal(number)?)));
-    let named = numbers.map(|(element_bytes, number)| sme_move::Tile {
-        element_bytes,
-        number,
-    });
-    named
-        .and_then(|named| Tile::existing(named, vector_bytes))
+    named(text)
+        .and_then(|tile| Tile::existing(tile, vector_bytes))
         .ok_or_else(|| {
             let text = shown(text);
             format!(

@@ -7,6 +7,8 @@ use crate::tile::{Tile, ELEMENT_BYTES};
 pub struct Room {
     pub held: Vec<Tile>,
     pub new: Option<Tile>,
+    /// The one that it has given up.
+    pub given_up: Option<Tile>,
     pub vector_bytes: usize,
 }
 
@@ -16,6 +18,8 @@ pub enum Status {
     Held,
     New,
     Free,
+    /// Free because it was given up.
+    GivenUp,
     /// Neither held nor free.
     Shares,
     /// Held, and so is another that it shares bytes with.
@@ -27,6 +31,7 @@ impl Room {
         let taken = self.held.iter().chain(&self.new);
         let sharing: Vec<&Tile> = taken.filter(|other| other.shares(tile)).collect();
         match sharing.as_slice() {
+            [] if self.given_up == Some(tile) => Status::GivenUp,
             [] => Status::Free,
             [one] if **one != tile => Status::Shares,
             [_] if self.new == Some(tile) => Status::New,
@@ -58,9 +63,10 @@ impl Room {
 }
 
 impl Status {
-    pub const ALL: [Status; 5] = [
+    pub const ALL: [Status; 6] = [
         Status::Held,
         Status::New,
+        Status::GivenUp,
         Status::Free,
         Status::Shares,
         Status::Clash,
@@ -72,6 +78,7 @@ impl Status {
         match self {
             Status::Held => "held",
             Status::New => "new",
+            Status::GivenUp => "given",
             Status::Free => "free",
             Status::Shares => "-",
             Status::Clash => "clash",
@@ -82,6 +89,7 @@ impl Status {
         match self {
             Status::Held => "a held tile",
             Status::New => "the new tile",
+            Status::GivenUp => "the tile that was given up",
             Status::Free => "shares no byte with a held or new tile",
             Status::Shares => "shares bytes with a held or new tile",
             Status::Clash => "held, and shares bytes with another held tile",
@@ -93,6 +101,7 @@ impl Status {
         match self {
             Status::Held => [158, 197, 242],
             Status::New => [163, 224, 150],
+            Status::GivenUp => [250, 226, 150],
             Status::Free => [255, 255, 255],
             Status::Shares => [232, 233, 237],
             Status::Clash => [245, 176, 160],
@@ -121,6 +130,7 @@ mod tests {
         let room = Room {
             held: vec![tile(2, 0), tile(8, 3)],
             new: Some(tile(4, 1)),
+            given_up: None,
             vector_bytes: 16,
         };
         for (tile, expected) in [
@@ -149,6 +159,7 @@ mod tests {
         let room = Room {
             held: vec![tile(8, 3), tile(4, 3), tile(16, 0), tile(16, 0), tile(8, 1)],
             new: None,
+            given_up: None,
             vector_bytes: 16,
         };
         for (tile, expected) in [

@@ -1,10 +1,10 @@
 //! The array with held, new and free tiles, as a drawing.
 
 use super::room::{Room, Status};
-use super::Taking;
+use super::{name, Asked, Outcome, Question};
 use crate::drawing::{Cell, Drawing};
 use crate::paint::web_colour;
-use crate::tile::{self, ELEMENT_BYTES};
+use crate::tile::ELEMENT_BYTES;
 use crate::wording::{answered, list, ranges};
 
 /// Stripes, which tell tiles that cannot be had from others where there is no colour.
@@ -13,16 +13,16 @@ const STRIPES: &str = r##"<defs>
 </defs>
 "##;
 
-pub fn svg(taking: &Taking, room: &Room) -> String {
+pub fn svg(asked: &Asked, room: &Room) -> String {
     let entry = |status: Status| (cell("tile".to_string(), status), status.meaning());
     let drawing = Drawing {
         vector_bytes: room.vector_bytes,
-        title: title(taking),
-        description: description(taking, room),
+        title: title(asked),
+        description: description(asked, room),
         definitions: STRIPES,
         legend: room.statuses().into_iter().map(entry).collect(),
         notes: vec![
-            format!("Asked: {}.", taking.asked()),
+            format!("Asked: {}.", asked.asked()),
             "Vector v of the array belongs to tile v mod m of m-byte elements.".to_string(),
             "Tile t of m-byte elements is tiles t and t + m of the next size.".to_string(),
         ],
@@ -31,34 +31,39 @@ pub fn svg(taking: &Taking, room: &Room) -> String {
 }
 
 /// The answer as a sentence.
-fn title(taking: &Taking) -> String {
-    match taking.answer {
-        Ok(new) => {
-            let name = tile::name(new.element_bytes, new.number);
-            format!("Answer 0: {name} is new")
-        }
+fn title(asked: &Asked) -> String {
+    match &asked.answer {
+        Ok(Outcome::New(new)) => format!("Answer 0: {} is new", name(*new)),
+        Ok(Outcome::Left { given_up, .. }) => format!("Answer 0: {} is given up", name(*given_up)),
         Err(refusal) => {
-            let said = answered(refusal.number(), &taking.reason(refusal));
+            let said = answered(refusal.number(), &asked.reason(*refusal));
             format!("Answer {said}")
         }
     }
 }
 
-fn description(taking: &Taking, room: &Room) -> String {
-    let held = list(&taking.held_lines(room));
+fn description(asked: &Asked, room: &Room) -> String {
+    let held = list(&asked.held_lines(room));
+    let (_, tiles) = asked.outcome();
+    let outcome = match asked.question {
+        Question::Take { .. } => "New",
+        Question::GiveUp(_) => "Left",
+    };
     let sizes = ELEMENT_BYTES.into_iter();
     let free: Vec<String> = sizes.filter_map(|size| free(room, size)).collect();
     format!(
-        "A table with a row for each vector of the array and a column for each element size. Vector v belongs to tile v modulo m of m-byte elements. Asked: {}. Held: {held}. New: {}. Free: {}.",
-        taking.asked(),
-        taking.new_name(),
+        "A table with a row for each vector of the array and a column for each element size. Vector v belongs to tile v modulo m of m-byte elements. Asked: {}. Held: {held}. {outcome}: {}. Free: {}.",
+        asked.asked(),
+        list(&tiles),
         list(&free)
     )
 }
 
 /// The free tiles of an element size, if there are any.
 fn free(room: &Room, element_bytes: usize) -> Option<String> {
-    let numbers = room.numbers(Status::Free, element_bytes);
+    let mut numbers = room.numbers(Status::Free, element_bytes);
+    numbers.extend(room.numbers(Status::GivenUp, element_bytes));
+    numbers.sort_unstable();
     let tiles = match numbers.len() {
         0 => return None,
         1 => "tile",
@@ -75,6 +80,10 @@ fn cell(left: String, status: Status) -> Cell {
     let (fill, border) = match status {
         Status::Held => (None, r##" stroke="#2c5f9e" stroke-width="1.5""##),
         Status::New => (None, r##" stroke="#1d6b1a" stroke-width="3""##),
+        Status::GivenUp => (
+            None,
+            r##" stroke="#8a6d1a" stroke-width="2.5" stroke-dasharray="2 3""##,
+        ),
         Status::Free => (
             None,
             r##" stroke="#8a90a0" stroke-width="1.5" stroke-dasharray="5 3""##,
@@ -95,7 +104,7 @@ fn cell(left: String, status: Status) -> Cell {
 
 #[cfg(test)]
 mod tests {
-    use super::super::tests::taking;
+    use super::super::tests::{giving_up, taking};
 
     #[test]
     fn the_drawing_has_a_cell_for_each_vector_and_size_and_a_legend() {
@@ -122,6 +131,15 @@ mod tests {
              8-byte elements. New: tile 1 of 4-byte elements. Free: tile 7 of 8-byte elements and \
              tiles 7 and 15 of 16-byte elements.</desc>"
         ));
+        let svg = giving_up((8, 3), &[(2, 0), (8, 3)]).svg(16);
+        assert!(
+            svg.contains("<title id=\"title\">Answer 0: tile 3 of 8-byte elements is given up<")
+        );
+        assert!(svg.contains(
+            ". Left: tile 0 of 2-byte elements. Free: tile 1 of 2-byte elements, tiles 1 and 3 of 4-byte \
+             elements, tiles 1, 3, 5 and 7 of 8-byte elements and"
+        ));
+        assert_eq!(svg.matches(">given</text>").count(), 2 + 1);
         let svg = taking(8, &[(1, 0), (257, 0)]).svg(16);
         assert!(svg.contains("Answer 16: a held tile does not exist, or two share bytes</title>"));
         assert!(svg

@@ -1,18 +1,27 @@
 use super::*;
 use crate::tile::ELEMENT_BYTES;
 
-pub(super) fn taking(element_bytes: u64, held: &[(u64, u64)]) -> Taking {
-    let tile = |&(element_bytes, number): &(u64, u64)| sme_move::Tile {
+fn tile(&(element_bytes, number): &(u64, u64)) -> sme_move::Tile {
+    sme_move::Tile {
         element_bytes,
         number,
-    };
-    Taking::ask(element_bytes, held.iter().map(tile).collect())
+    }
 }
 
-fn printed(taking: &Taking, vector_bytes: usize, colours: bool) -> String {
+pub(super) fn taking(element_bytes: u64, held: &[(u64, u64)]) -> Asked {
+    let question = Question::Take { element_bytes };
+    Asked::new(question, held.iter().map(tile).collect())
+}
+
+pub(super) fn giving_up(given_up: (u64, u64), held: &[(u64, u64)]) -> Asked {
+    let question = Question::GiveUp(tile(&given_up));
+    Asked::new(question, held.iter().map(tile).collect())
+}
+
+fn printed(asked: &Asked, vector_bytes: usize, colours: bool) -> String {
     let mut out = Vec::new();
     let paint = Paint { colours };
-    taking
+    asked
         .print(&mut out, vector_bytes, paint)
         .expect("memory can be written");
     String::from_utf8(out).expect("plain text")
@@ -106,6 +115,55 @@ fn with_no_tile_held_the_first_of_each_size_is_new() {
         assert_eq!(beginning(&text, "  held"), ["  held     none"]);
         let new = format!("  new      tile 0 of {element_bytes}-byte elements");
         assert_eq!(beginning(&text, "  new  ")[0], new);
+    }
+}
+
+#[test]
+fn a_tile_that_is_given_up_is_marked_and_the_others_are_left() {
+    let text = printed(&giving_up((8, 3), &[(2, 0), (8, 3), (4, 1)]), 16, false);
+    let head =
+        "give up tile 3 of 8-byte elements\n  held     tile 0 of 2-byte elements\n           \
+                tile 3 of 8-byte elements\n           tile 1 of 4-byte elements\n  \
+                answer   0: done\n  \
+                left     tile 0 of 2-byte elements\n           tile 1 of 4-byte elements\n\n";
+    assert!(text.starts_with(head), "{text}");
+    assert_eq!(
+        beginning(&text, "    11 |"),
+        ["    11 |    0 -     |    1 -     |    3 free  |    3 given |   11 free"]
+    );
+    assert_eq!(
+        beginning(&text, "           given"),
+        ["           given  the tile that was given up"]
+    );
+    let text = printed(&giving_up((8, 3), &[(8, 3)]), 16, false);
+    assert_eq!(beginning(&text, "  left"), ["  left     none"]);
+}
+
+#[test]
+fn a_refusal_to_give_up_is_said_and_leaves_the_held_tiles() {
+    let many = [(16, 0); 17];
+    let bad = "16: a held tile does not exist, or two share bytes";
+    for (given_up, held, answer) in [
+        (
+            (8, 4),
+            &[(8, 3)][..],
+            "16: tile 4 of 8-byte elements is not held",
+        ),
+        ((3, 9), &[], "16: tile 9 of 3-byte elements is not held"),
+        ((8, 3), &[(8, 3), (4, 3)], bad),
+        ((8, 3), &[(8, 3), (4, 4)], bad),
+        ((16, 0), &many, bad),
+    ] {
+        let text = printed(&giving_up(given_up, held), 16, false);
+        let expected = format!("  answer   {answer}");
+        assert_eq!(beginning(&text, "  answer"), [expected]);
+        let left = match held {
+            [] => "  left     none",
+            [(16, 0), ..] => "  left     tile 0 of 16-byte elements",
+            _ => "  left     tile 3 of 8-byte elements",
+        };
+        assert_eq!(beginning(&text, "  left"), [left]);
+        assert!(!text.contains("given  "));
     }
 }
 
