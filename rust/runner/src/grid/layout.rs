@@ -83,13 +83,15 @@ impl Layout {
         if parts.is_empty() {
             return None;
         }
-        let hidden = match self.hidden_changes(grid) {
-            0 => "no changed byte".to_string(),
-            hidden => counted(hidden, "changed byte"),
-        };
         let parts = parts.join(" and ");
+        // Where nothing changed, the contents alone are shown, and there is no change to miss.
+        let hidden = match (grid.unchanged(), self.hidden_changes(grid)) {
+            (true, _) => String::new(),
+            (false, 0) => ", with no changed byte among them".to_string(),
+            (false, hidden) => format!(", with {} among them", counted(hidden, "changed byte")),
+        };
         Some(format!(
-            "{MARGIN} left out: {parts}, with {hidden} among them (--all shows everything)"
+            "{MARGIN} left out: {parts}{hidden} (--all shows everything)"
         ))
     }
 
