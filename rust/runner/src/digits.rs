@@ -68,6 +68,11 @@ pub fn bytes(tokens: &[&str]) -> Result<Vec<u8>, String> {
     Ok(bytes)
 }
 
+/// Bytes as they are written, two digits each, without blanks.
+pub fn digits_of(bytes: &[u8]) -> String {
+    bytes.iter().map(|byte| format!("{byte:02X}")).collect()
+}
+
 fn only_hexadecimal(text: &str) -> Result<(), String> {
     match text.chars().find(|c| !c.is_ascii_hexdigit()) {
         None => Ok(()),

@@ -4,7 +4,7 @@ use crate::changes::{self, Change, Spot};
 use crate::json::Json;
 use crate::machine::{Execution, Machine};
 use crate::run::{Checked, Executed, Observer, Tally};
-use crate::script::{Expectation, Place};
+use crate::script::{Answer, Expectation, Place};
 use crate::verdict::{self, Difference};
 use crate::{version, wording};
 use sme_move::{Fields, Refusal};
@@ -209,20 +209,21 @@ fn differing(expectation: &Expectation, difference: &Difference) -> Json {
             ("expected", Json::bytes(bytes)),
             ("found", Json::bytes(found)),
         ]),
-        (
-            Expectation::Answer {
-                number: expected,
-                address: at,
-            },
-            Difference::Answer(found),
-        ) => Json::Object(vec![
-            ("expected", Json::Number(*expected as usize)),
-            ("expected_address", Json::of(*at, Json::address)),
+        (Expectation::Answer(expected), Difference::Answer(found)) => Json::Object(vec![
+            ("expected", Json::Number(expected.number() as usize)),
+            ("expected_address", expected_address(*expected)),
             ("found", Json::Number(number(*found))),
             ("found_address", address(*found)),
         ]),
         // A difference is always of its expectation's sort.
         _ => Json::Null,
+    }
+}
+
+fn expected_address(answer: Answer) -> Json {
+    match answer {
+        Answer::Exactly(answer) => address(answer),
+        Answer::OutsideMemory => Json::Null,
     }
 }
 

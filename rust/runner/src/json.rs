@@ -1,5 +1,6 @@
 //! JSON values as text.
 
+use crate::digits::digits_of;
 use std::fmt::{self, Write};
 
 pub enum Json {
@@ -25,7 +26,7 @@ impl Json {
 
     /// Bytes of two hexadecimal digits each.
     pub fn bytes(bytes: &[u8]) -> Json {
-        Json::Text(bytes.iter().map(|byte| format!("{byte:02X}")).collect())
+        Json::Text(digits_of(bytes))
     }
 
     /// Null where there is nothing.

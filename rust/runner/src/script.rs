@@ -3,13 +3,14 @@
 mod draft;
 mod expect;
 mod files;
+mod members;
 mod parser;
 
 use sme_move::Settings;
 use std::ops::Range;
 
 pub use draft::vector_bytes;
-pub use expect::{Expectation, Subject};
+pub use expect::{Answer, Expectation, Subject};
 pub use parser::parse;
 
 /// A script without faults.

@@ -1,7 +1,8 @@
 //! Whether an expectation is met, and if not, where the first difference is.
 
+use crate::digits::digits_of;
 use crate::machine::Machine;
-use crate::script::{Expectation, Subject};
+use crate::script::{Answer, Expectation, Subject};
 use crate::wording::{self, counted};
 use sme_move::Refusal;
 
@@ -32,12 +33,8 @@ pub fn difference(
     answer: Result<(), Refusal>,
 ) -> Option<Difference> {
     match expectation {
-        Expectation::Answer { number, address } => {
-            let found = answer.map_or_else(Refusal::number, |()| 0);
-            let carried = answer.map_or_else(Refusal::address, |()| 0);
-            let met = found == *number && address.is_none_or(|address| address == carried);
-            (!met).then_some(Difference::Answer(answer))
-        }
+        Expectation::Answer(expected) if expected.is(answer) => None,
+        Expectation::Answer(_) => Some(Difference::Answer(answer)),
         Expectation::Bytes { subject, bytes } => {
             let found = machine.bytes(*subject, bytes.len());
             let pairs = bytes.iter().zip(found.iter());
@@ -56,7 +53,7 @@ pub fn difference(
 /// What an expectation is about.
 pub fn about(expectation: &Expectation) -> String {
     match expectation {
-        Expectation::Answer { .. } => "the answer".to_string(),
+        Expectation::Answer(_) => "the answer".to_string(),
         Expectation::Bytes { subject, .. } => subject.name(),
     }
 }
@@ -64,8 +61,8 @@ pub fn about(expectation: &Expectation) -> String {
 /// Lines that show a difference: a name and a text each.
 pub fn lines(expectation: &Expectation, difference: &Difference) -> Vec<(&'static str, String)> {
     match (expectation, difference) {
-        (Expectation::Answer { number, address }, Difference::Answer(found)) => vec![
-            ("expected", expected_answer(*number, *address)),
+        (Expectation::Answer(expected), Difference::Answer(found)) => vec![
+            ("expected", expected_answer(*expected)),
             ("found", wording::answer(*found)),
         ],
         (
@@ -94,10 +91,10 @@ pub fn lines(expectation: &Expectation, difference: &Difference) -> Vec<(&'stati
     }
 }
 
-fn expected_answer(number: u32, address: Option<u64>) -> String {
-    match address {
-        Some(address) => format!("{number}: address {address:016X} is not in memory"),
-        None => number.to_string(),
+fn expected_answer(answer: Answer) -> String {
+    match answer {
+        Answer::Exactly(answer) => wording::answer(answer),
+        Answer::OutsideMemory => wording::answered(answer.number(), "an address is not in memory"),
     }
 }
 
@@ -105,7 +102,8 @@ fn expected_answer(number: u32, address: Option<u64>) -> String {
 fn place(subject: Subject, byte: usize) -> String {
     match subject {
         Subject::Memory { address } => {
-            format!("byte {byte}, at address {:016X}", address + byte as u64)
+            let address = address.wrapping_add(byte as u64);
+            format!("byte {byte}, at address {address:016X}")
         }
         Subject::Vector(_) | Subject::Array(_) => format!("byte {byte}"),
         Subject::Slice { tile, .. } => {
@@ -125,15 +123,10 @@ fn row(bytes: &[u8], byte: usize) -> String {
         }
     };
     let groups = bytes[range.clone()].chunks(GROUP);
-    let groups: Vec<String> = groups.map(hexadecimal).collect();
+    let groups: Vec<String> = groups.map(digits_of).collect();
     let text = groups.join(" ");
     match range.len() == bytes.len() {
         true => text,
         false => format!("{text} (bytes {} to {})", range.start, range.end - 1),
     }
-}
-
-/// Bytes of two digits each, without blanks.
-pub fn hexadecimal(bytes: &[u8]) -> String {
-    bytes.iter().map(|byte| format!("{byte:02X}")).collect()
 }

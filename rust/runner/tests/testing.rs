@@ -51,9 +51,8 @@ fn expectations_that_are_met_are_counted() {
     ends(&brief(lines, &["--strict"]), 0, summary, "");
 }
 
-#[test]
-fn the_first_difference_is_shown() {
-    for (line, details) in [
+/// Expectations that are not met, and what is printed of them.
+const DIFFERENCES: [(&str, &str); 6] = [
         (
             "vector 2 1111111111111111 2121312121212122",
             "vector register 2 is not as expected\n  \
@@ -79,7 +78,13 @@ fn the_first_difference_is_shown() {
         (
             "answer 0",
             "the answer is not as expected\n  \
-             expected 0\n  \
+             expected 0: done\n  \
+             found    7: address 0000000000000110 is not in memory\n",
+        ),
+        (
+            "answer 5",
+            "the answer is not as expected\n  \
+             expected 5: the array is off\n  \
              found    7: address 0000000000000110 is not in memory\n",
         ),
         (
@@ -88,7 +93,11 @@ fn the_first_difference_is_shown() {
              expected 7: address 00000000000000FF is not in memory\n  \
              found    7: address 0000000000000110 is not in memory\n",
         ),
-    ] {
+];
+
+#[test]
+fn the_first_difference_is_shown() {
+    for (line, details) in DIFFERENCES {
         let output = brief(&format!("expect {line}\n"), &[]);
         let summary = "5 words, 4 done, 1 refused; 1 expectation, 0 met, 1 not met\n";
         let headline = details.lines().next().unwrap_or_default();
@@ -201,6 +210,32 @@ fn bytes_go_out_to_files_and_come_in_from_them() {
     assert!(text.contains("word 3: C0C282C2 (line 7, byte 8 of the file)\n"));
 }
 
+/// Lines that name the files below, and what is wrong with them.
+const WRONG_FILES: [(&str, &str); 10] = [
+    ("words-file none", "'none' is empty"),
+    ("memory-file none", "'none' is empty"),
+    ("array-file none", "'none' is empty"),
+    (
+        "words-file seven",
+        "'seven' has 7 bytes: a word has four, and 3 are left after the last",
+    ),
+    ("array-file seven", "'seven' has 7 bytes; the array has 256"),
+    (
+        "array-file array",
+        "'array' has more than the 256 bytes that there is room for",
+    ),
+    (
+        "memory-file more",
+        "'more' has more than the 67108864 bytes that there is room for",
+    ),
+    (
+        "words-file words",
+        "'words' has more than the 4194304 bytes that there is room for",
+    ),
+    ("memory-file folder", "'folder' cannot be read: "),
+    ("memory-file most", "the script ends without a word"),
+];
+
 #[test]
 fn files_of_bytes_are_checked() {
     let folder = folder("wrong-files");
@@ -215,30 +250,7 @@ fn files_of_bytes_are_checked() {
     sized("more", (64 << 20) + 1);
     sized("words", (4 << 20) + 4);
     fs::create_dir(folder.join("folder")).expect("the folder can be made");
-    for (line, message) in [
-        ("words-file none", "'none' is empty"),
-        ("memory-file none", "'none' is empty"),
-        ("array-file none", "'none' is empty"),
-        (
-            "words-file seven",
-            "'seven' has 7 bytes: a word has four, and 3 are left after the last",
-        ),
-        ("array-file seven", "'seven' has 7 bytes; the array has 256"),
-        (
-            "array-file array",
-            "'array' has more than the 256 bytes that there is room for",
-        ),
-        (
-            "memory-file more",
-            "'more' has more than the 67108864 bytes that there is room for",
-        ),
-        (
-            "words-file words",
-            "'words' has more than the 4194304 bytes that there is room for",
-        ),
-        ("memory-file folder", "'folder' cannot be read: "),
-        ("memory-file most", "the script ends without a word"),
-    ] {
+    for (line, message) in WRONG_FILES {
         let script = format!("vector-bytes 16\n{line}\n");
         fs::write(folder.join("k.txt"), script).expect("the file can be written");
         let output = run_in(&folder, &["k.txt"]);

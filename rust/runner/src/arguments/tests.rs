@@ -15,8 +15,29 @@ fn wrong_command_lines_are_refused() {
         ("--color", "--color takes a value"),
         ("--width 80 --width=90", "--width is given twice"),
         ("--width wide", "--width takes a decimal number, not 'wide'"),
-        ("--decode --map", "--decode and --map do not go together"),
         ("--decode", "--decode takes one or more words"),
+        (
+            "--map kernel.txt",
+            "--map takes no file, but 'kernel.txt' is given",
+        ),
+        ("a b", "one file is enough; 'b' is more"),
+        ("--array-out -", "--array-out takes a file, not -"),
+    ] {
+        assert_eq!(fault(line), message, "{line}");
+    }
+    assert!(fault("--decode C080").ends_with("'C080' has 4"));
+    assert!(fault("--map --vector-bytes 48").starts_with("'48' is no vector length"));
+}
+
+#[test]
+fn options_go_with_their_tasks() {
+    for (line, message) in [
+        ("--decode --map", "--decode and --map do not go together"),
+        (
+            "--encode --decode",
+            "--decode and --encode do not go together",
+        ),
+        ("--json --quiet", "--quiet and --json do not go together"),
         (
             "--decode --svg a.svg C0000000",
             "--svg goes only with --map, --take or --give-up",
@@ -26,52 +47,44 @@ fn wrong_command_lines_are_refused() {
             "--vector-bytes goes only with --map, --take or --give-up",
         ),
         ("--level 2 kernel.txt", "--level goes only with --decode"),
+        ("--encode --level 1", "--level goes only with --decode"),
         (
             "--decode --strict 00000000",
             "--strict goes only with a script",
         ),
-        (
-            "--encode",
-            "--encode takes the eleven numbers of each word, not 0 numbers",
-        ),
-        (
-            "--encode 1 4 1 2 1 13 3 5 0 0",
-            "--encode takes the eleven numbers of each word, not 10 numbers",
-        ),
-        (
-            "--encode 1 4 1 2 1 13 3 5 0 0 1 7",
-            "--encode takes the eleven numbers of each word, not 12 numbers",
-        ),
-        (
-            "--encode 1 4 1 2 1 13 3 5 0 0 256",
-            "--encode takes decimal numbers of at most 255, not '256'",
-        ),
-        (
-            "--encode 1 4 1 2 1 0D 3 5 0 0 1",
-            "--encode takes decimal numbers of at most 255, not '0D'",
-        ),
-        (
-            "--encode --decode",
-            "--decode and --encode do not go together",
-        ),
-        ("--encode --level 1", "--level goes only with --decode"),
         ("--map --json", "--json goes only with a script"),
-        ("--json --quiet", "--quiet and --json do not go together"),
         ("--map --quiet", "--quiet goes only with a script"),
         (
             "--take 1 --words-out a",
             "--words-out goes only with a script",
         ),
-        (
-            "--map kernel.txt",
-            "--map takes no file, but 'kernel.txt' is given",
-        ),
-        ("a b", "one file is enough; 'b' is more"),
     ] {
         assert_eq!(fault(line), message, "{line}");
     }
-    assert!(fault("--decode C080").ends_with("'C080' has 4"));
-    assert!(fault("--map --vector-bytes 48").starts_with("'48' is no vector length"));
+}
+
+#[test]
+fn numbers_to_encode_are_eleven_and_small() {
+    let count = "--encode takes the eleven numbers of each word, not";
+    let small = "--encode takes decimal numbers of at most 255, not";
+    for (line, message) in [
+        ("--encode", format!("{count} 0 numbers")),
+        (
+            "--encode 1 4 1 2 1 13 3 5 0 0",
+            format!("{count} 10 numbers"),
+        ),
+        (
+            "--encode 1 4 1 2 1 13 3 5 0 0 1 7",
+            format!("{count} 12 numbers"),
+        ),
+        (
+            "--encode 1 4 1 2 1 13 3 5 0 0 256",
+            format!("{small} '256'"),
+        ),
+        ("--encode 1 4 1 2 1 0D 3 5 0 0 1", format!("{small} '0D'")),
+    ] {
+        assert_eq!(fault(line), message, "{line}");
+    }
 }
 
 #[test]

@@ -1,26 +1,59 @@
 //! What a script expects of the words before.
 
+use super::members::{exactly, member, member_bytes};
 use super::Place;
 use crate::digits::{bytes, decimal, hexadecimal, shown};
 use crate::tile::{named, Tile};
-use crate::wording::direction_name;
-use sme_move::{Direction, Settings};
+use crate::wording::{counted, direction_name};
+use sme_move::{Direction, Refusal, Settings};
 
 const FORMS: &str = "'expect' is followed by answer, memory, vector, array or tile";
 const TILE_FORM: &str = "'expect tile' takes a tile such as 4:1, horizontal or vertical, \
                          the number of a slice, and its bytes";
 
+/// The refusals that a word of a script can get. Its settings are right, so they are none.
+const REFUSALS: [Refusal; 6] = [
+    Refusal::BadLengths,
+    Refusal::Undecodable,
+    Refusal::StreamingOff,
+    Refusal::ZaOff,
+    Refusal::StackMisaligned,
+    SOMEWHERE_OUTSIDE,
+];
+const SOMEWHERE_OUTSIDE: Refusal = Refusal::OutsideMemory { address: 0 };
+
 #[derive(Debug, PartialEq)]
 pub enum Expectation {
-    /// The answer of the word before; an address only where it is told and the answer is 7.
-    Answer {
-        number: u32,
-        address: Option<u64>,
-    },
+    /// The answer of the word before.
+    Answer(Answer),
     Bytes {
         subject: Subject,
         bytes: Vec<u8>,
     },
+}
+
+#[derive(Clone, Copy, Debug, PartialEq)]
+pub enum Answer {
+    Exactly(Result<(), Refusal>),
+    /// That an address is not in memory, whichever.
+    OutsideMemory,
+}
+
+impl Answer {
+    pub fn is(self, found: Result<(), Refusal>) -> bool {
+        match self {
+            Answer::Exactly(answer) => answer == found,
+            Answer::OutsideMemory => matches!(found, Err(Refusal::OutsideMemory { .. })),
+        }
+    }
+
+    pub fn number(self) -> u32 {
+        match self {
+            Answer::Exactly(Ok(())) => 0,
+            Answer::Exactly(Err(refusal)) => refusal.number(),
+            Answer::OutsideMemory => SOMEWHERE_OUTSIDE.number(),
+        }
+    }
 }
 
 /// Whose bytes are expected.
@@ -85,23 +118,36 @@ impl Expectation {
     }
 }
 
-/// An answer that a word of a script can get. Its settings are right, so it cannot be 1.
 fn answer(values: &[&str]) -> Result<Expectation, String> {
     let (number, address) = match values {
         [number] => (*number, None),
-        [number, address] => (*number, Some(*address)),
+        [number, address] => (*number, Some(hexadecimal(address)?)),
         _ => return Err("'expect answer' takes a number, and with 7 also an address".to_string()),
     };
-    let known = decimal(number).filter(|number| matches!(number, 0 | 2..=7));
-    let number = known.ok_or_else(|| {
+    let answer = decimal(number).and_then(answered).ok_or_else(|| {
         let number = shown(number);
         format!("'{number}' is no answer that a word of a script gets: 0 or 2 to 7, in decimal")
-    })? as u32;
-    if number != 7 && address.is_some() {
-        return Err(format!("only answer 7 has an address, and {number} none"));
+    })?;
+    match (answer, address) {
+        (answer, None) => Ok(Expectation::Answer(answer)),
+        (Answer::OutsideMemory, Some(address)) => {
+            let answer = Answer::Exactly(Err(Refusal::OutsideMemory { address }));
+            Ok(Expectation::Answer(answer))
+        }
+        (_, Some(_)) => Err(format!("only answer 7 has an address, and {number} none")),
     }
-    let address = address.map(hexadecimal).transpose()?;
-    Ok(Expectation::Answer { number, address })
+}
+
+/// The answer of a number, if a word of a script can get it.
+fn answered(number: u64) -> Option<Answer> {
+    if number == 0 {
+        return Some(Answer::Exactly(Ok(())));
+    }
+    let mut refusals = REFUSALS.into_iter();
+    match refusals.find(|refusal| u64::from(refusal.number()) == number)? {
+        Refusal::OutsideMemory { .. } => Some(Answer::OutsideMemory),
+        refusal => Some(Answer::Exactly(Err(refusal))),
+    }
 }
 
 fn memory(values: &[&str], start: u64, memory_bytes: usize) -> Result<Expectation, String> {
@@ -118,10 +164,9 @@ fn memory(values: &[&str], start: u64, memory_bytes: usize) -> Result<Expectatio
         end.is_some_and(|end| end <= memory_bytes as u64)
     });
     if room.is_none() {
-        let (length, subject) = (bytes.len(), Subject::Memory { address });
+        let [wanted, all] = [bytes.len(), memory_bytes].map(|length| counted(length, "byte"));
         return Err(format!(
-            "{length} bytes of {} are not all in memory, which has {memory_bytes} from {start:016X} on",
-            subject.name()
+            "memory does not have {wanted} from {address:016X} on: it has {all} from {start:016X} on"
         ));
     }
     let subject = Subject::Memory { address };
@@ -160,42 +205,5 @@ fn tile(text: &str, vector_bytes: usize) -> Result<Tile, String> {
             format!(
                 "'{text}' is no tile: element bytes 1, 2, 4, 8 or 16, a colon and a number below that"
             )
-        })
-}
-
-/// The number of a vector register, predicate or vector of the array, and its bytes.
-pub fn member_bytes(
-    place: Place,
-    values: &[&str],
-    vector_bytes: usize,
-) -> Result<(usize, Vec<u8>), String> {
-    let name = place.member();
-    let length = place.member_bytes(vector_bytes);
-    let Some((number, tokens)) = values.split_first() else {
-        return Err(format!("a {name} takes its number and {length} bytes"));
-    };
-    let number = member(name, place.members(vector_bytes), number)?;
-    Ok((number, exactly(tokens, name, length)?))
-}
-
-/// So many bytes, which are those of what has this name.
-fn exactly(tokens: &[&str], name: &str, length: usize) -> Result<Vec<u8>, String> {
-    let bytes = bytes(tokens)?;
-    match bytes.len() {
-        found if found == length => Ok(bytes),
-        found => Err(format!(
-            "a {name} has exactly {length} bytes here, not {found}"
-        )),
-    }
-}
-
-/// The number of one of so many registers or vectors.
-pub fn member(name: &str, members: usize, text: &str) -> Result<usize, String> {
-    decimal(text)
-        .filter(|&number| number < members as u64)
-        .map(|number| number as usize)
-        .ok_or_else(|| {
-            let (text, last) = (shown(text), members - 1);
-            format!("'{text}' is no number of a {name}: 0 to {last}, in decimal")
         })
 }

@@ -1,8 +1,9 @@
 //! The lines of a script.
 
 use super::draft::Draft;
-use super::expect::{member, member_bytes, Expectation};
+use super::expect::Expectation;
 use super::files::{self, WORD_BYTES};
+use super::members::{member, member_bytes};
 use super::{Action, Fault, Place, Script, Step, Word};
 use crate::digits::{bytes, hexadecimal, shown, word};
 use crate::wording::counted;
@@ -14,9 +15,9 @@ use std::path::Path;
 const MAX_MEMORY: usize = 64 << 20;
 const MAX_WORDS: usize = 1 << 20;
 
-const STATEMENTS: &str =
-    "vector-bytes, level, streaming, array, memory-address, register, vector, \
-                          predicate, array-file, memory, memory-file, word, words-file, expect";
+const STATEMENTS: &str = "vector-bytes, level, streaming, array, memory-address, register, \
+                          vector, predicate, array-file, memory, memory-file, word, words-file, \
+                          expect";
 
 struct Parser<'a> {
     draft: Draft,
@@ -210,7 +211,7 @@ impl Parser<'_> {
         if self.words == 0 {
             return Err("'expect' comes after a word: it is about what words did".to_string());
         }
-        if let Expectation::Answer { .. } = expectation {
+        if let Expectation::Answer(_) = expectation {
             let mut before = self.steps.iter_mut().rev();
             let word = before.find_map(|step| match &mut step.action {
                 Action::Word(word) => Some(word),

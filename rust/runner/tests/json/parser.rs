@@ -204,7 +204,7 @@ mod tests {
     use super::*;
 
     #[test]
-    fn right_and_wrong_texts_are_told_apart() {
+    fn right_texts_are_read() {
         let text = " { \"a\" : [ 1, true,null ,\"\\u0041\\\\\\\"\" ] , \"b\":{}, \"c\":[] }\n";
         let list = vec![
             Value::Number(1),
@@ -218,6 +218,10 @@ mod tests {
             ("c".to_string(), Value::List(Vec::new())),
         ];
         assert_eq!(parse(text), Ok(Value::Object(expected)));
+    }
+
+    #[test]
+    fn wrong_texts_are_refused() {
         for wrong in [
             "",
             "{",

@@ -1,6 +1,8 @@
 //! Each fault of a script has its message and its line; what is right is taken in.
 
 use super::*;
+use crate::script::Answer;
+use sme_move::Refusal;
 
 fn parse(text: &str) -> Result<Script, Fault> {
     super::parse(text, Path::new(""))
@@ -166,7 +168,7 @@ fn words_are_checked() {
 }
 
 #[test]
-fn expectations_are_checked() {
+fn expectations_come_after_words() {
     faults(&[
         (
             "B;word 00000000;expect",
@@ -182,17 +184,42 @@ fn expectations_are_checked() {
         ),
         ("expect answer 0", "k:1: 'vector-bytes' is missing"),
     ]);
-    for (values, message) in [
+}
+
+/// What is wrong with expectations after a word and four bytes of memory.
+#[track_caller]
+fn expectations(cases: &[(&str, &str)]) {
+    for (values, message) in cases {
+        let start = "B;memory-address 100;memory 00010203;word 00000000";
+        let found = fault(&format!("{start};expect {values}"));
+        let expected = match *message {
+            "" => "no fault".to_string(),
+            message => format!("k:5: {message}"),
+        };
+        assert!(found.starts_with(&expected), "{values}\n{found}");
+    }
+}
+
+#[test]
+fn expected_answers_are_checked() {
+    expectations(&[
         ("answer", "'expect answer' takes a number, and with 7 also"),
-        (
-            "answer 7 10 20",
-            "'expect answer' takes a number, and with 7 also",
-        ),
+        ("answer 7 10 20", "'expect answer' takes a number, and with"),
         ("answer 1", "'1' is no answer that a word of a script gets"),
         ("answer 8", "'8' is no answer"),
         ("answer 07", "'07' is no answer"),
         ("answer 6 10", "only answer 7 has an address, and 6 none"),
         ("answer 7 1G", "'1G' has 'G' in it"),
+        ("answer 0", ""),
+        ("answer 2", ""),
+        ("answer 6", ""),
+        ("answer 7", ""),
+    ]);
+}
+
+#[test]
+fn expected_vectors_are_checked() {
+    expectations(&[
         ("vector", "a vector register takes its number and 16 bytes"),
         (
             "vector 32",
@@ -207,16 +234,12 @@ fn expectations_are_checked() {
             "'16' is no number of a vector of the array: 0 to 15",
         ),
         ("array 1 0", "'0' has 1 digits"),
-    ] {
-        let found = fault(&format!("B;word 00000000;expect {values}"));
-        assert!(found.starts_with(&format!("k:3: {message}")), "{found}");
-    }
+    ]);
 }
 
 #[test]
-fn expectations_of_slices_and_memory_are_checked() {
-    let start = "B;memory-address 100;memory 00010203;word 00000000";
-    for (values, message) in [
+fn expected_slices_are_checked() {
+    expectations(&[
         (
             "tile 4:1 horizontal",
             "'expect tile' takes a tile such as 4:1",
@@ -239,10 +262,14 @@ fn expectations_of_slices_and_memory_are_checked() {
             "tile 4:1 vertical 3 00",
             "a slice has exactly 16 bytes here, not 1",
         ),
-        (
-            "memory",
-            "'expect memory' takes an address and one or more bytes",
-        ),
+        ("tile 16:15 vertical 0 00112233445566778899AABBCCDDEEFF", ""),
+    ]);
+}
+
+#[test]
+fn expected_memory_is_in_memory() {
+    expectations(&[
+        ("memory", "'expect memory' takes an address and one or more"),
         (
             "memory 100",
             "'expect memory' takes one or more bytes after",
@@ -250,32 +277,24 @@ fn expectations_of_slices_and_memory_are_checked() {
         ("memory 100 0", "'0' has 1 digits"),
         (
             "memory FF 00",
-            "1 bytes of memory from address 00000000000000FF are not all in memory, \
-             which has 4 from 0000000000000100 on",
+            "memory does not have 1 byte from 00000000000000FF on: it has 4 bytes from \
+             0000000000000100 on",
         ),
         (
             "memory 104 00",
-            "1 bytes of memory from address 0000000000000104",
+            "memory does not have 1 byte from 0000000000000104",
         ),
         (
             "memory 103 0000",
-            "2 bytes of memory from address 0000000000000103",
+            "memory does not have 2 bytes from 0000000000000103",
         ),
         (
             "memory FFFFFFFFFFFFFFFF 0000",
-            "2 bytes of memory from address FFFF",
+            "memory does not have 2 bytes from FF",
         ),
-    ] {
-        let found = fault(&format!("{start};expect {values}"));
-        assert!(found.starts_with(&format!("k:5: {message}")), "{found}");
-    }
-    for values in [
-        "memory 100 00010203",
-        "memory 103 FF",
-        "tile 16:15 vertical 0 00112233445566778899AABBCCDDEEFF",
-    ] {
-        assert_eq!(fault(&format!("{start};expect {values}")), "no fault");
-    }
+        ("memory 100 00010203", ""),
+        ("memory 103 FF", ""),
+    ]);
 }
 
 /// An expectation of an answer is about the word before, also where other lines stand between.
@@ -292,10 +311,8 @@ fn a_word_knows_whether_its_answer_is_expected() {
     let expected = [(0, false), (1, true), (2, false), (3, true)];
     assert_eq!(words.collect::<Vec<_>>(), expected);
     let last = script.steps.last().map(|step| &step.action);
-    let answer = Expectation::Answer {
-        number: 7,
-        address: Some(0x1F),
-    };
+    let outside = Refusal::OutsideMemory { address: 0x1F };
+    let answer = Expectation::Answer(Answer::Exactly(Err(outside)));
     assert_eq!(last, Some(&Action::Expect(answer)));
 }
 
