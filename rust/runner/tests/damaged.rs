@@ -120,16 +120,19 @@ fn damaged_files_are_refused_with_file_and_line() {
 impl Tally {
     /// Damages a script, or one of the files of the script that has some, and runs it.
     fn draw(&mut self, folder: &Folder, random: &mut Random) {
-        let (kind, script) = match random.below(4) {
-            0 => (folder.damage_a_file(random), WITH_FILES.as_bytes().to_vec()),
-            _ => {
-                let script = SCRIPTS[random.below(SCRIPTS.len())];
-                let kind = KINDS[random.below(KINDS.len())];
-                folder.restore();
-                (kind.0, damaged(script.as_bytes(), kind, random))
-            }
+        let damages_a_file = random.below(4) == 0;
+        let (kind, script) = if damages_a_file {
+            (folder.damage_a_file(random), WITH_FILES.as_bytes().to_vec())
+        } else {
+            let script = SCRIPTS[random.below(SCRIPTS.len())];
+            let kind = KINDS[random.below(KINDS.len())];
+            (kind.0, damaged(script.as_bytes(), kind, random))
         };
-        match folder.run(&script, FORMS[random.below(FORMS.len())]) {
+        let verdict = folder.run(&script, FORMS[random.below(FORMS.len())]);
+        if damages_a_file {
+            folder.restore();
+        }
+        match verdict {
             Ok(Verdict::Refused) => {
                 self.refused += 1;
                 *self.kinds.entry(kind).or_default() += 1;
@@ -184,7 +187,6 @@ impl Folder {
 
     /// Damages one of the files, and tells how.
     fn damage_a_file(&self, random: &mut Random) -> &'static str {
-        self.restore();
         let (name, bytes) = &files()[random.below(3)];
         let path = self.0.join(name);
         let choice = random.below(BINARY_KINDS.len() + 2);
