@@ -20,5 +20,5 @@ pub mod table;
 #[cfg(test)]
 mod tests;
 pub mod tiles;
-mod view;
+pub mod view;
 pub mod worked;

@@ -7,8 +7,8 @@ mod addresses;
 mod causes;
 mod lengths;
 mod memory;
-mod predicates;
-mod registers;
+pub mod predicates;
+pub mod registers;
 pub mod settings;
 mod words;
 
