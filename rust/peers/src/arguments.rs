@@ -90,15 +90,18 @@ impl Arguments {
         }
     }
 
-    fn checked(self) -> Result<Arguments, String> {
+    fn checked(mut self) -> Result<Arguments, String> {
         if !self.words && !self.states {
             return Err("--words-only and --states-only: nothing is left".to_string());
         }
         if !(1..=1024).contains(&self.workers.threads) {
             return Err("--threads: from 1 to 1024".to_string());
         }
-        if (self.only).is_some_and(|only| !(1..=self.draws.count).contains(&only)) {
-            return Err("--only: no such state; the first is 1".to_string());
+        match self.only {
+            Some(0) => return Err("--only: the first state is 1".to_string()),
+            // A longer run may have told of it.
+            Some(only) => self.draws.count = self.draws.count.max(only),
+            None => (),
         }
         Ok(self)
     }

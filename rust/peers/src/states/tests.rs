@@ -4,11 +4,13 @@ use super::faults::Fault;
 use super::generate::{generate, PAGE};
 use super::judge::{judge, Verdict};
 use super::machine::{Abilities, End, Reply, MEMORY, MEMORY_BYTES};
+use super::told::difference;
 use super::Unit;
 use compare::case::{Case, Outcome};
 use compare::rows::encoding;
 use second::execute::Settings;
 use second::inputs::random::Random;
+use sme_move::Refusal;
 
 /// LD1 and ST1 of words, vertical and horizontal: tile 0, W12, P0, base X1,
 /// offset XZR.
@@ -55,16 +57,12 @@ fn run(case: &Case) -> Outcome {
 
 /// The reply of a machine that does what the unit did.
 fn reply_like(own: &Outcome) -> Reply {
-    let end = match own.answer {
-        0 => End::Done,
-        7 => End::Signal {
-            number: 11,
-            address: own.address,
-        },
-        _ => End::Signal {
-            number: if own.answer == 6 { 7 } else { 4 },
-            address: 0,
-        },
+    let signal = |number, address| End::Signal { number, address };
+    let end = match Refusal::of_number(own.answer, own.address) {
+        None => End::Done,
+        Some(Refusal::OutsideMemory { address }) => signal(11, address),
+        Some(Refusal::StackMisaligned) => signal(7, 0),
+        Some(_) => signal(4, 0),
     };
     Reply {
         end,
@@ -266,4 +264,33 @@ fn only_a_straddling_element_may_abort() {
     for (case, told) in others {
         assert_eq!(verdict(&case, &died(told)), Verdict::Differ);
     }
+}
+
+#[test]
+fn a_difference_is_told_in_full() {
+    let case = case(LOAD_VERTICAL, 0x0010, MEMORY);
+    let own = run(&case);
+    let mut reply = reply_like(&own);
+    reply.za[element(1).start] ^= 0x0F;
+    let told = difference(&case, &own, &reply);
+    println!("{told}");
+    for part in [
+        "word E09F8020",
+        "Ld1",
+        "unit: answer 0",
+        "peer: done",
+        "X0  [",
+        "P15",
+        "ZA: 1 bytes differ, the first: 64, byte 0 of number 4; from 48:",
+        "memory: alike",
+    ] {
+        assert!(told.contains(part), "{part} is missing in\n{told}");
+    }
+    reply.end = End::Died {
+        told: "signal: 6".to_string(),
+    };
+    reply.za.clear();
+    let told = difference(&case, &own, &reply);
+    assert!(told.contains("peer: the emulator ended: signal: 6"));
+    assert!(told.contains("ZA: the peer gave none"));
 }

@@ -2,7 +2,7 @@
 
 use super::machine::{End, Reply};
 use compare::case::{Case, Outcome};
-use sme_move::decode;
+use sme_move::{decode, Settings};
 use std::fmt::Write;
 
 /// How many bytes are shown before and after the first that differs.
@@ -10,45 +10,57 @@ const AROUND: usize = 16;
 
 /// Everything about a case on which the machine and the unit differ.
 pub fn difference(case: &Case, own: &Outcome, reply: &Reply) -> String {
-    let settings = &case.settings;
-    let mut told = format!("word {:08X}", case.word);
-    let mut line = |text: String| {
-        told.push('\n');
-        told.push_str(&text);
-    };
-    match decode(case.word, 3) {
-        Ok(operation) => line(format!("at level 3: {operation:?}")),
-        Err(refusal) => line(format!("at level 3: {refusal}")),
-    }
-    line(format!(
-        "{settings:X?}, {} bytes of memory",
-        case.memory.len()
-    ));
-    line(format!(
-        "unit: answer {}, address {:016X}",
-        own.answer, own.address
-    ));
-    line(format!("peer: {}", end(&reply.end)));
-    for (first, row) in case.x.chunks(4).enumerate() {
-        line(format!("X{:<2} {row:016X?}", 4 * first));
-    }
-    let predicate = settings.vector_bytes as usize / 8;
-    for (number, bytes) in case.p.chunks(predicate).enumerate() {
-        line(format!("P{number:<2}{}", hexadecimal(bytes)));
-    }
+    let mut lines = vec![
+        format!("word {:08X}", case.word),
+        operation(case.word),
+        settings(case),
+        format!("unit: answer {}, address {:016X}", own.answer, own.address),
+        format!("peer: {}", end(&reply.end)),
+    ];
+    lines.extend(registers(case));
     if reply.x != case.x && !reply.x.is_empty() {
-        line(format!("X after the peer: {:016X?}", reply.x));
+        lines.push(format!("X after the peer: {:016X?}", reply.x));
     }
-    let vector = settings.vector_bytes as usize;
-    line(buffer("Z", vector, [&case.z, &own.z, &reply.z]));
-    line(buffer("P", predicate, [&case.p, &own.p, &reply.p]));
-    line(buffer("ZA", vector, [&case.za, &own.za, &reply.za]));
-    line(buffer(
-        "memory",
-        1,
-        [&case.memory, &own.memory, &reply.memory],
-    ));
-    told
+    let vector = case.settings.vector_bytes as usize;
+    let memories = [&case.memory[..], &own.memory, &reply.memory];
+    lines.push(buffer("Z", vector, [&case.z, &own.z, &reply.z]));
+    lines.push(buffer("P", vector / 8, [&case.p, &own.p, &reply.p]));
+    lines.push(buffer("ZA", vector, [&case.za, &own.za, &reply.za]));
+    lines.push(buffer("memory", 1, memories));
+    lines.join("\n")
+}
+
+fn operation(word: u32) -> String {
+    match decode(word, Settings::MAX_LEVEL) {
+        Ok(operation) => format!("at the highest level: {operation:?}"),
+        Err(refusal) => format!("at the highest level: {refusal}"),
+    }
+}
+
+fn settings(case: &Case) -> String {
+    let settings = &case.settings;
+    format!(
+        "vector length {}, level {}, streaming {}, ZA {}, {} bytes of memory from {:016X} on",
+        settings.vector_bytes,
+        settings.level,
+        settings.streaming,
+        settings.za_on,
+        case.memory.len(),
+        settings.memory_address
+    )
+}
+
+/// All of X and P before the call.
+fn registers(case: &Case) -> Vec<String> {
+    let mut lines = Vec::new();
+    for (row, values) in case.x.chunks(4).enumerate() {
+        lines.push(format!("X{:<2} {values:016X?}", 4 * row));
+    }
+    let predicate = case.settings.vector_bytes as usize / 8;
+    for (number, bytes) in case.p.chunks(predicate).enumerate() {
+        lines.push(format!("P{number:<2}{}", hexadecimal(bytes)));
+    }
+    lines
 }
 
 fn end(end: &End) -> String {

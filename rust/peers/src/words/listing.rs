@@ -22,7 +22,8 @@ impl Disassembler {
         let output = command.arg(&self.library).output();
         let output = output.map_err(|error| format!("{}: {error}", self.program.display()))?;
         if !output.status.success() {
-            return Err(String::from_utf8_lossy(&output.stderr).into_owned());
+            let told = String::from_utf8_lossy(&output.stderr);
+            return Err(format!("{told}LLVM 16 or later is wanted"));
         }
         Ok(String::from_utf8_lossy(&output.stdout).trim().to_string())
     }
