@@ -4,6 +4,7 @@
 #   tests/peers.sh [option...]      --help tells of the options
 # Build first: rt staticlib sme_move
 set -euo pipefail
+from=$PWD
 cd "$(dirname "$0")/.."
 out=target/peers
 words=yes
@@ -11,7 +12,16 @@ states=yes
 llvm=
 qemu='qemu-aarch64'
 
-given=("$@")
+# placed PATH: as it was given, seen from here. A name without a slash is looked for and stays.
+placed() {
+    case $1 in
+    /*) echo "$1" ;;
+    */*) echo "$from/$1" ;;
+    *) echo "$1" ;;
+    esac
+}
+
+given=()
 while [ $# -gt 0 ]; do
     case $1 in
     --help)
@@ -20,11 +30,23 @@ while [ $# -gt 0 ]; do
         ;;
     --words-only) states= ;;
     --states-only) words= ;;
-    --llvm) llvm=${2-} ;;
-    --qemu) qemu=${2-} ;;
+    --llvm | --qemu)
+        if [ $# -lt 2 ]; then
+            echo "peers.sh: $1: a value is missing" >&2
+            exit 2
+        fi
+        declare "${1#--}=$(placed "$2")"
+        shift 2
+        continue
+        ;;
     esac
+    given+=("$1")
     shift
 done
+if [ "${SME_MOVE_LIB_DIR-}" ]; then
+    SME_MOVE_LIB_DIR=$(cd "$from" && realpath -m "$SME_MOVE_LIB_DIR")
+    export SME_MOVE_LIB_DIR
+fi
 
 # The latest libLLVM that the linker knows, if it is of version 16 or later. Its name was libLLVM-17.so.1 and is
 # libLLVM.so.19.1.

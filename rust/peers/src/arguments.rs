@@ -113,3 +113,52 @@ fn mistake(name: &str) -> Result<AnyMistake, String> {
     let found = of_words.or_else(of_states);
     found.ok_or_else(|| format!("{name}: no such mistake"))
 }
+
+#[cfg(test)]
+mod tests {
+    use super::*;
+
+    fn read(words: &[&str]) -> Result<Arguments, String> {
+        Arguments::read(words.iter().map(OsString::from))
+    }
+
+    #[test]
+    fn the_help_text_has_the_count_and_every_mistake() {
+        let usage = usage();
+        assert!(usage.contains(&format!("({COUNT})")));
+        for own in WordMistake::all() {
+            assert!(usage.contains(own.name));
+        }
+        for (name, _) in Mistake::NAMED {
+            assert!(usage.contains(name));
+        }
+    }
+
+    #[test]
+    fn options_are_read() {
+        let all = read(&[]).expect("no option is fine");
+        assert!(all.words && all.states && all.mistake.is_none());
+        let words = read(&["--words-only", "--llvm", "libLLVM.so.19.1"]).expect("options");
+        assert!(words.words && !words.states);
+        assert_eq!(words.disassembler.library, PathBuf::from("libLLVM.so.19.1"));
+        let one = read(&["--states-only", "--only", "9000000", "--seed", "0x10"]).expect("options");
+        assert_eq!((one.draws.count, one.draws.seed), (9_000_000, 16));
+        assert!(read(&["--mistake", "OneWordMissing"]).is_ok());
+        assert!(read(&["--mistake", "BigEndian"]).is_ok());
+    }
+
+    #[test]
+    fn wrong_options_are_refused() {
+        let wrong: [&[&str]; 6] = [
+            &["--word"],
+            &["--count"],
+            &["--only", "0"],
+            &["--threads", "0"],
+            &["--words-only", "--states-only"],
+            &["--mistake", "None"],
+        ];
+        for words in wrong {
+            assert!(read(words).is_err(), "{words:?}");
+        }
+    }
+}

@@ -6,6 +6,7 @@ use crate::states::{Plan, Unit};
 use crate::words::{self, every_block, WordMistake};
 use compare::exhaustive::blocks::Draws;
 use second::execute::Mistake;
+use std::process::exit;
 use std::time::Instant;
 
 /// States in which a mistake must be noticed.
@@ -38,7 +39,8 @@ fn compare(arguments: &Arguments) -> Result<(), String> {
 fn compare_words(arguments: &Arguments) -> Result<(), String> {
     let start = Instant::now();
     let peer = &arguments.disassembler;
-    println!("words: LLVM {}", peer.version()?);
+    let version = peer.version().unwrap_or_else(|told| unusable(&told));
+    println!("words: LLVM {version}");
     notice_all(arguments, WordMistake::all().map(AnyMistake::OfWords))?;
     let blocks = every_block();
     let found = words::compare(peer, words::archive, &blocks, &arguments.workers)?;
@@ -52,7 +54,7 @@ fn compare_words(arguments: &Arguments) -> Result<(), String> {
 fn compare_states(arguments: &Arguments) -> Result<(), String> {
     let start = Instant::now();
     let plan = plan(arguments, Unit::Archive);
-    let abilities = plan.abilities()?;
+    let abilities = plan.abilities().unwrap_or_else(|told| unusable(&told));
     println!("states: {}", arguments.emulator.version()?);
     println!("{}", told_level(abilities.level));
     if !abilities.low_memory {
@@ -71,6 +73,12 @@ fn compare_states(arguments: &Arguments) -> Result<(), String> {
         "states: {cases} from seed 0x{seed:X}, {known} with known faults, no other difference, {seconds} s"
     );
     Ok(())
+}
+
+/// Ends the command: without a peer there is no result, good or bad.
+fn unusable(told: &str) -> ! {
+    eprintln!("peers: {told}");
+    exit(2)
 }
 
 /// What the emulator's level means for the comparison.
