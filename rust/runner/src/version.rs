@@ -3,11 +3,13 @@
 /// The file that states the binding's version, so that it need not be repeated.
 const BINDING: &str = include_str!("../../sme_move/Cargo.toml");
 
-/// Each part's name and version. What else has a version gets its entry here.
-pub fn parts() -> [(&'static str, &'static str); 2] {
+/// Each part's name and version. The archive's has two numbers, as the header's has.
+pub fn parts() -> [(&'static str, String); 3] {
+    let archive = sme_move::numbers::version();
     [
-        ("runner", env!("CARGO_PKG_VERSION")),
-        ("sme_move", stated(BINDING)),
+        ("runner", env!("CARGO_PKG_VERSION").to_string()),
+        ("sme_move", stated(BINDING).to_string()),
+        ("archive", format!("{}.{}", archive >> 16, archive & 0xFFFF)),
     ]
 }
 
@@ -29,13 +31,14 @@ mod tests {
     use super::*;
 
     #[test]
-    fn each_part_has_a_version_in_three_numbers() {
-        let text = text();
-        assert_eq!(text.lines().count(), parts().len());
-        for line in text.lines() {
-            let version = line.split_once(' ').map(|(_, version)| version);
-            let numbers: Vec<&str> = version.unwrap_or_default().split('.').collect();
-            assert!(numbers.len() == 3 && numbers.iter().all(|n| n.parse::<u32>().is_ok()));
+    fn each_part_has_a_version_in_numbers() {
+        let parts = parts();
+        for ((name, version), length) in parts.iter().zip([3, 3, 2]) {
+            let numbers: Vec<&str> = version.split('.').collect();
+            assert!(numbers.len() == length && numbers.iter().all(|n| n.parse::<u32>().is_ok()));
+            assert!(text().contains(&format!("{name} {version}\n")));
         }
+        // The binding is written for this archive.
+        assert!(parts[1].1.starts_with(&format!("{}.", parts[2].1)));
     }
 }
