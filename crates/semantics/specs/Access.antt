@@ -1,4 +1,4 @@
--- Where the bytes of a load or store lie in memory. Renders 01 §5, and answers 6 and 7 of 01 §6, as docs/TABLE.md amends them.
+-- Where the bytes of a load or store lie in memory. Renders 01 §5, and answers 6 and 7 of 01 §6, as docs/RULES.md has them.
 -- To believe: register 31 is the stack pointer as a base and zero as an offset; the offset counts elements; addresses are taken
 -- modulo 2^64.
 -- Assumes nothing.

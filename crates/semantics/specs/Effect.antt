@@ -1,4 +1,4 @@
--- What each operation writes, on buffers of the right lengths. Renders 01 §5 as docs/TABLE.md amends it.
+-- What each operation writes, on buffers of the right lengths. Renders 01 §5 as docs/RULES.md has it.
 -- To believe: `writesOf`, which bytes of which buffer, and `valuesOf`, what they become. The first is not handed the content of Z, ZA or memory.
 -- Assumes nothing.
 use Prim.Native.Nat.{ℕ, _+_, _*_, _-_, _/_, _%_}

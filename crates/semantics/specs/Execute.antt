@@ -1,4 +1,4 @@
--- Execution of one word: the answer, and the state afterwards. Renders 01 §6 over 01 §2 and §5, as docs/TABLE.md amends them.
+-- Execution of one word: the answer, and the state afterwards. Renders 01 §6 over 01 §2 and §5, as docs/RULES.md has them.
 -- To believe: the order of the checks, when each fails, and that only answer 0 changes a buffer. The answer goes by settings,
 -- word and `Public` alone.
 -- Assumes nothing.

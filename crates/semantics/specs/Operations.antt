@@ -1,4 +1,4 @@
--- What each operation does, in the sentences of 01 §5 as docs/TABLE.md amends them, element by element and byte by byte. specs/Effect.antt says the
+-- What each operation does, in the sentences of 01 §5 as docs/RULES.md has them, element by element and byte by byte. specs/Effect.antt says the
 -- same by places and values; `OperationsMean` and `OperationsSettle` of specs/Claims.antt say that it is the same, of every execution that is done, so that
 -- neither is believed alone.
 -- To believe: that these are document 01's sentences. Nothing of specs/Effect.antt, specs/Access.antt or of the places of crates/tiles is used.

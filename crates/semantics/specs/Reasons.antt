@@ -1,4 +1,4 @@
--- When each answer is given: each row of the table of 01 §6, as docs/TABLE.md amends it, is a proposition of its own in the table's words, and an answer
+-- When each answer is given: each row of the table of 01 §6, as docs/RULES.md has it, is a proposition of its own in the table's words, and an answer
 -- is given exactly if its own holds and none before it does. specs/Execute.antt has a chain of tests, specs/Lines.antt a list of them.
 -- To believe: that these are the table's rows. Of the definitions of execution it uses `executeOf`, its number and address, and, for a word that decodes, `decodeOf`; what an
 -- active element and an address are is said in specs/Operations.antt.
