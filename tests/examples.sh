@@ -1,6 +1,6 @@
 #!/usr/bin/env bash
-# Runs the examples: the hosts in C and in Rust, which must print what examples/transpose.stdout has, and the scripts,
-# in each of which every word must be done and everything be as the script expects.
+# Runs the examples: the hosts in C and in Rust, which must print what stands in a file of examples/, and the scripts, in
+# each of which every word must be done and everything be as the script expects.
 # Build first: rt staticlib sme_move. SME_MOVE_LIB_DIR is the folder of another archive.
 set -euo pipefail
 root=$(cd "$(dirname "$0")/.." && pwd)
@@ -29,6 +29,8 @@ run() {
     echo "$1: as stored"
 }
 
+gcc -std=c11 -Wall -Wextra -Werror -pedantic -Iinclude examples/c/tiles.c "$archive" -o "$out/tiles"
+run examples/c/tiles.c examples/tiles.stdout "$out/tiles"
 gcc -std=c11 -Wall -Wextra -Werror -pedantic -Iinclude examples/c/transpose.c "$archive" -o "$out/transpose"
 run examples/c/transpose.c examples/transpose.stdout "$out/transpose"
 run examples/rust/transpose.rs examples/transpose.stdout cargo run "${cargo[@]}" -p sme_move --example transpose

@@ -1,6 +1,6 @@
 #!/usr/bin/env bash
-# Takes the kernel, the tiles and the hosts in C and in Rust out of the README, runs them with the commands that stand
-# there, and holds what they print to what stands there.
+# Takes the kernel and the hosts in C and in Rust out of the README, runs them with the commands that stand there, and
+# holds what they print to what stands there.
 # Build first: rt staticlib sme_move
 set -euo pipefail
 cd "$(dirname "$0")/.."
@@ -19,16 +19,14 @@ block() {
 }
 
 # The commands are to be given in the repository's folder: here a folder that looks like it.
-ln -s "$root/include" "$root/rust" "$out/"
+ln -s "$root/include" "$root/rust" "$root/run.sh" "$out/"
 mkdir "$out/target"
 ln -s "$root/target/staticlib" "$out/target/"
-echo "exec bash '$root/run.sh' \"\$@\"" >"$out/run.sh"
 
 block kernel 1 >"$out/kernel.txt"
 block c 1 >"$out/host.c"
-block c 2 >"$out/tiles.c"
 block rust 1 >"$out/host.rs"
-for host in 1 2 3 4 5; do
+for host in 1 2 3; do
     block sh "$host" >"$out/commands"
     block text "$host" >"$out/expected"
     (cd "$out" && bash -euo pipefail commands) >"$out/printed"
@@ -43,4 +41,4 @@ block output 1 >"$out/part"
 awk -v first="$(head -1 "$out/part")" -v lines="$(wc -l <"$out/part")" '
     $0 == first { on = 1 }
     on && count++ < lines' rust/runner/tests/example.stdout | diff - "$out/part"
-echo "the kernel, the tiles and the hosts of the README print what stands there"
+echo "the kernel and the hosts of the README print what stands there"
