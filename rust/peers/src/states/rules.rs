@@ -1,6 +1,6 @@
 //! Where a known fault of the emulator shows, agreement with it would be
 //! wrong. There the unit is held to the sentences of document 01 and its
-//! amendments (docs/TABLE.md) themselves.
+//! amendments (docs/RULES.md) themselves.
 
 use super::faults::without_top_byte;
 use compare::names::{Named, FAULT};

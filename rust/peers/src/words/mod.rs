@@ -88,7 +88,7 @@ impl Sum for Found {
 }
 
 impl Found {
-    /// An error if not as many words decode as docs/TABLE.md says, after all
+    /// An error if not as many words decode as docs/RULES.md says, after all
     /// blocks.
     pub fn check(&self) -> Result<(), String> {
         let all = TOP_BYTES.len() as u64 * u64::from(OF_TOP_BYTE);
