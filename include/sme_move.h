@@ -11,8 +11,8 @@
  * Hosts call the wrappers in the second half, which take settings as a record made by sme_settings_new, and held tiles
  * as one made by sme_held_none. The archive's own functions take settings and results as arrays with a count. So a
  * later version that adds a setting or a result changes no function: a host's source stays as it is, and so does an
- * object file, whose machine then has the added setting as new settings have it. An object file made with this header
- * does not link with an archive that is older than the header.
+ * object file, whose machine then has the added setting as new settings have it. An object file that makes settings by
+ * this header does not link with an archive that is older than the header; sme_version_fits tells of the two versions.
  *
  * Three things that a host needs to know of the machine, where B is the vector length in bytes and m the bytes of an
  * element:
