@@ -5,14 +5,14 @@
  * allocation, no global and no last error. Every word, setting and buffer length has an answer; a refusal
  * changes no buffer. Calls on different buffers may run at once.
  *
- * No two of the buffers and results of one call may overlap. An empty memory and an empty array of settings, results or
+ * No two of the arrays and buffers of one call may overlap. An empty memory and an empty array of settings, results or
  * tiles may be (NULL, 0); every other pointer must point to as many items as its length says, aligned for its type.
  *
  * Hosts call the wrappers in the second half, which take settings as a record made by sme_settings_new, and held tiles
  * as one made by sme_held_none. The archive's own functions take settings and results as arrays with a count. So a
  * later version that adds a setting or a result changes no function: a host's source stays as it is, and so does an
- * object file, whose machine then has the added setting as new settings have it. An object file that makes settings by
- * this header does not link with an archive that is older than the header; sme_version_fits tells of the two versions.
+ * object file, whose machine then has the added setting as new settings have it. An object file made with this header
+ * does not link with an archive that is older than the header.
  *
  * Three things that a host needs to know of the machine, where B is the vector length in bytes and m the bytes of an
  * element:
@@ -53,7 +53,10 @@ extern "C" {
 enum sme_answer {
     /* done */
     SME_DONE = 0,
-    /* the vector length is not 16, 32, 64, 128 or 256 bytes, or the level is above 3 */
+    /*
+     * the vector length is not 16, 32, 64, 128 or 256 bytes, or the level is above 3; also where an array of settings
+     * has too few or too many numbers
+     */
     SME_BAD_SETTINGS = 1,
     /* a buffer has not the length that the vector length fixes, or memory ends above 2^64 */
     SME_BAD_LENGTHS = 2,
@@ -179,7 +182,7 @@ enum sme_setting {
 
 /*
  * The results of an execution as an array of numbers; these are their places. As many are written as the array has
- * places for; what is behind them stays as it was.
+ * places for, so lend SME_RESULT_COUNT of them: an archive of a later version has more to write.
  */
 enum sme_result {
     /* the address that SME_OUTSIDE_MEMORY carries, 0 with any other answer */
@@ -190,7 +193,7 @@ enum sme_result {
 
 /*
  * The version of the archive, as one number like SME_MOVE_VERSION. An archive has such a function for its own version
- * and for each before it whose hosts it serves; so one that is older than a host's header does not link.
+ * and for each before it whose hosts it serves, and none for a later one.
  */
 uint32_t sme_version_0_5(void);
 
@@ -238,17 +241,20 @@ uint32_t sme_decode(uint32_t word, uint64_t level, uint8_t *fields);
  */
 uint32_t sme_encode(const uint8_t *fields, uint32_t *word);
 
-/* SME_DONE where a machine may have these settings, an array as of enum sme_setting, else SME_BAD_SETTINGS. */
+/*
+ * SME_DONE where a machine may have these settings, an array as of enum sme_setting, else SME_BAD_SETTINGS: by the
+ * vector length, the level and the count.
+ */
 uint32_t sme_check(const uint64_t *settings, size_t settings_count);
 
 /*
- * The lengths that the vector length of these settings fixes, which alone is checked.
+ * The lengths that the vector length of these settings fixes. It and the count are checked, and no other setting.
  *
  * settings, settings_count
  *          an array as of enum sme_setting
  * lengths  four numbers, written with answer 0 only: X in numbers, Z, P and ZA in bytes
  *
- * Returns SME_DONE, or SME_BAD_SETTINGS for a vector length that is not allowed.
+ * Returns SME_DONE, or SME_BAD_SETTINGS for a vector length that is not allowed, or too few or too many settings.
  */
 uint32_t sme_measure(const uint64_t *settings, size_t settings_count, uint64_t *lengths);
 
@@ -294,7 +300,10 @@ uint32_t sme_give_up_tile(uint64_t *tiles, size_t tiles_count, size_t *count, ui
 }
 #endif
 
-/* The settings of a machine. Make it with sme_settings_new, which knows every member; set members after. */
+/*
+ * The settings of a machine. Make it with sme_settings_new, which knows every member, and change switches and memory
+ * address after; for another vector length or level make new settings.
+ */
 typedef struct sme_settings {
     uint64_t vector_bytes;
     uint64_t level;
@@ -326,19 +335,30 @@ typedef struct sme_held {
     size_t count;
 } sme_held;
 
-/*
- * The version of the archive that the host is linked with. sme_version_fits tells whether that archive serves hosts of
- * this header: of the same major version, and no older.
- */
+/* The version of the archive that the host is linked with. */
 static inline uint32_t sme_version(void)
 {
     return sme_version_0_5();
 }
 
-static inline bool sme_version_fits(void)
+/* Whether an archive of that version is no older than this header. One that a host is linked with always is. */
+static inline bool sme_version_serves(uint32_t archive)
 {
-    return sme_version() / 65536 == SME_MOVE_VERSION_MAJOR && sme_version() % 65536 >= SME_MOVE_VERSION_MINOR;
+    return archive >= SME_MOVE_VERSION;
 }
+
+/*
+ * For the linker: an archive that is older than this header has no such function, so the host does not link. A program
+ * that includes this header and is linked with no archive defines SME_MOVE_WITHOUT_ARCHIVE.
+ */
+#if defined(__GNUC__) && !defined(SME_MOVE_WITHOUT_ARCHIVE)
+#if defined(__has_attribute)
+#if __has_attribute(retain)
+__attribute__((retain))
+#endif
+#endif
+__attribute__((used)) static uint32_t (*const sme_version_needed)(void) = sme_version_0_5;
+#endif
 
 /*
  * Settings of this vector length and level, with both switches off and memory at address 0. They are not
@@ -352,8 +372,6 @@ static inline sme_settings sme_settings_new(uint64_t vector_bytes, uint64_t leve
     settings.streaming = false;
     settings.za_on = false;
     settings.memory_address = 0;
-    /* For the linker: an archive that is too old to know all these settings has no such function. */
-    (void)sme_version();
     return settings;
 }
 

@@ -4,7 +4,7 @@
 # Build first: rt staticlib sme_move
 set -euo pipefail
 cd "$(dirname "$0")/.."
-archive=target/staticlib/libsme_move.a
+archive=${SME_MOVE_LIB_DIR:-target/staticlib}/libsme_move.a
 out=target/header
 wrong=$out/wrong
 rm -rf "$out"
@@ -34,31 +34,36 @@ must_notice() {
     echo "$1: noticed, $(grep -m 1 '^tests/c/' "$out/told")"
 }
 
-# wrong_header NAME EDIT: the tests of what the header does by itself, with a copy of it that sed has changed
+# wrong_header NAME SOURCE EDIT: the tests, of which this source is compiled with a copy of the header that sed has changed
 wrong_header() {
-    sed "$2" include/sme_move.h >"$wrong/sme_move.h"
+    local object
+    local -a objects=()
+    sed "$3" include/sme_move.h >"$wrong/sme_move.h"
     if cmp -s include/sme_move.h "$wrong/sme_move.h"; then
         echo "header.sh: $1: there is no such line to change" >&2
         exit 1
     fi
-    compile tests/c/wrapper_tests.c "$wrong/wrapper_tests.o" "$wrong"
-    link "$wrong/interface" "$wrong/wrapper_tests.o" "${others[@]}"
+    compile "tests/c/$2.c" "$wrong/$2.o" "$wrong"
+    for object in "${right[@]}"; do
+        [ "$object" = "$out/$2.o" ] || objects+=("$object")
+    done
+    link "$wrong/interface" "$wrong/$2.o" "${objects[@]}"
     must_notice "$1" "$wrong/interface"
 }
 
-others=()
+right=()
 for source in tests/c/*.c; do
     object=$out/$(basename "$source" .c).o
     compile "$source" "$object" include
-    [ "$source" = tests/c/wrapper_tests.c ] || others+=("$object")
+    right+=("$object")
 done
-link "$out/interface" "$out/wrapper_tests.o" "${others[@]}"
+link "$out/interface" "${right[@]}"
 "$out/interface"
 g++ -std=c++11 "${flags[@]}" -Iinclude tests/c/header.cpp "$archive" -o "$out/header"
 "$out/header"
 
 compile tests/c/wrong/execute.c "$wrong/execute.o" include
-link "$wrong/unit" -Wl,--wrap=sme_execute_word "$wrong/execute.o" "$out/wrapper_tests.o" "${others[@]}"
+link "$wrong/unit" -Wl,--wrap=sme_execute_word "$wrong/execute.o" "${right[@]}"
 WRONG=None "$wrong/unit" >"$out/told"
 for mistake in XIn16Bits XIn32Bits XBytesIn16Bits XBytesIn32Bits ZIn16Bits ZIn32Bits PIn16Bits PIn32Bits ZaIn16Bits \
     ZaIn32Bits MemoryLengthIn16Bits MemoryLengthIn32Bits MemoryOffsetIn16Bits MemoryOffsetIn32Bits EndOffsetIn16Bits \
@@ -66,11 +71,18 @@ for mistake in XIn16Bits XIn32Bits XBytesIn16Bits XBytesIn32Bits ZIn16Bits ZIn32
     must_notice "$mistake" env WRONG="$mistake" "$wrong/unit"
 done
 
-wrong_header WithZaSetsStreaming 's/settings\.za_on = on;/& settings.streaming = on;/'
-wrong_header WithZaOnlySwitchesOn 's/settings\.za_on = on;/settings.za_on = settings.za_on || on;/'
-wrong_header WithStreamingIgnoresArgument 's/settings\.streaming = on;/settings.streaming = true, (void)on;/'
-wrong_header WithMemoryAddressSetsLevel 's/settings\.memory_address = address;/& settings.level = SME_MAX_LEVEL;/'
-wrong_header NewIgnoresVectorLength 's/settings\.vector_bytes = vector_bytes;/settings.vector_bytes = 16, (void)vector_bytes;/'
-wrong_header GivesStreamingAsZa 's/given\[SME_SETTING_ZA_ON\] = settings\.za_on;/given[SME_SETTING_ZA_ON] = settings.streaming;/'
-wrong_header AnotherText 's/"the array is off"/"the array is not on"/'
-wrong_header TextOfNoAnswer 's/"no answer of this version"/"done"/'
+wrong_header WithZaSetsStreaming wrapper_tests 's/settings\.za_on = on;/& settings.streaming = on;/'
+wrong_header WithZaOnlySwitchesOn wrapper_tests 's/settings\.za_on = on;/settings.za_on = settings.za_on || on;/'
+wrong_header WithStreamingIgnoresArgument wrapper_tests 's/settings\.streaming = on;/settings.streaming = true, (void)on;/'
+wrong_header WithMemoryAddressSetsLevel wrapper_tests 's/settings\.memory_address = address;/& settings.level = SME_MAX_LEVEL;/'
+wrong_header NewIgnoresVectorLength wrapper_tests 's/settings\.vector_bytes = vector_bytes;/settings.vector_bytes = 16, (void)vector_bytes;/'
+wrong_header GivesStreamingAsZa wrapper_tests 's/given\[SME_SETTING_ZA_ON\] = settings\.za_on;/given[SME_SETTING_ZA_ON] = settings.streaming;/'
+wrong_header AnotherText wrapper_tests 's/"the array is off"/"the array is not on"/'
+wrong_header TextOfNoAnswer wrapper_tests 's/"no answer of this version"/"done"/'
+wrong_header ServesAll wrapper_tests 's/archive >= SME_MOVE_VERSION/archive >= SME_MOVE_VERSION || archive > 0/'
+wrong_header ServesOlder wrapper_tests 's/archive >= SME_MOVE_VERSION/archive <= SME_MOVE_VERSION/'
+wrong_header MakeKeepsRefused settings_tests 's/sme_settings_new(SME_MIN_VECTOR_BYTES, 0)/sme_settings_new(vector_bytes, 0)/'
+wrong_header LengthsOfShortest settings_tests 's/sme_settings_lengths(sme_settings_new(vector_bytes, 0), lengths)/sme_settings_lengths(sme_settings_new(vector_bytes == 256 ? 16 : vector_bytes, 0), lengths)/'
+wrong_header ExecuteExchangesSwitches machine 's/settings\.streaming = streaming;/settings.streaming = za_on, za_on = streaming;/'
+wrong_header ExecuteAtHighestLevel machine 's/sme_settings settings = sme_settings_new(vector_bytes, level);/sme_settings settings = sme_settings_new(vector_bytes, level < 4 ? 3 : level);/'
+wrong_header ExecuteForgetsMemoryAddress machine 's/settings\.memory_address = memory_address;/(void)memory_address;/'

@@ -4,6 +4,7 @@
 # they call has changed; and a host of a later header does not link with the archive of today.
 # Build first: rt staticlib sme_move
 set -euo pipefail
+export LC_ALL=C
 cd "$(dirname "$0")/.."
 archive=${SME_MOVE_LIB_DIR:-target/staticlib}/libsme_move.a
 out=target/versions
@@ -29,7 +30,7 @@ must_run() {
 
 # must_not_link SOURCE FOLDER NAME SYMBOL: because the archive has no such symbol
 must_not_link() {
-    if host "$1" "$2" "$3" || ! grep -q "undefined reference to .$4'" "$out/$3.told"; then
+    if host "$1" "$2" "$3" || ! grep -Eq "undefined (reference to|symbol:) .?$4\b" "$out/$3.told"; then
         echo "versions.sh: $3 should not link for want of $4" >&2
         cat "$out/$3.told" >&2
         exit 1
@@ -45,6 +46,15 @@ for symbol in sme_execute sme_check_settings sme_lengths; do
     must_not_link tests/c/old/execute.c tests/c/old/0.4 old-object-execute "$symbol"
 done
 
-# The header of a later version that adds a setting: its wrappers ask for that version.
+# The header of a later version that adds a setting or a result, in hosts that make settings and in those that do not.
 sed 's/sme_version_0_5/sme_version_0_6/' include/sme_move.h >"$out/later/sme_move.h"
-must_not_link tests/c/old/execute.c "$out/later" later-header sme_version_0_6
+for source in words execute; do
+    must_not_link "tests/c/old/$source.c" "$out/later" "later-header-$source" sme_version_0_6
+done
+
+# A program that only wants the header's names needs no archive.
+echo '#include "sme_move.h"' | gcc "${flags[@]}" -DSME_MOVE_WITHOUT_ARCHIVE -Iinclude -x c -c - -o "$out/names.o"
+if nm "$out/names.o" | grep -q sme_; then
+    echo 'versions.sh: the header by itself needs the archive' >&2
+    exit 1
+fi

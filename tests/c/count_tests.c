@@ -86,8 +86,11 @@ static void check_with(size_t count)
     CHECK_EQUAL(four[0], wanted == SME_DONE ? SME_X_COUNT : 1);
     CHECK_EQUAL(four[3], wanted == SME_DONE ? SME_ZA_BYTES(B) : 4);
     /* so many more are never those of the low bits of the count */
-    CHECK_EQUAL(sme_check(numbers_of(&given), count + (UINT64_C(1) << 16)), SME_BAD_SETTINGS);
-    CHECK_EQUAL(sme_check(numbers_of(&given), count + (UINT64_C(1) << 32)), SME_BAD_SETTINGS);
+    for (int bit = 16; bit <= 32; bit += 16) {
+        const size_t more = count + ((size_t)1 << bit);
+        CHECK_EQUAL(sme_check(numbers_of(&given), more), SME_BAD_SETTINGS);
+        CHECK_EQUAL(sme_measure(numbers_of(&given), more, four), SME_BAD_SETTINGS);
+    }
     seen[CHECK_SETTINGS][wanted]++;
     seen[MEASURE][wanted]++;
     guarded_free(&given);

@@ -75,12 +75,15 @@ static void give_tests(void)
     }
 }
 
-/* The archive's version is the header's, which 65536 and 1 tell apart from an older and a newer one. */
+/* The archive's version is the header's. The one before does not serve it; the next, and the next major one, do. */
 static void version_tests(void)
 {
     CHECK_EQUAL(SME_MOVE_VERSION, 65536 * SME_MOVE_VERSION_MAJOR + SME_MOVE_VERSION_MINOR);
     CHECK_EQUAL(sme_version(), SME_MOVE_VERSION);
-    CHECK(sme_version_fits());
+    CHECK(sme_version_serves(sme_version()));
+    CHECK(!sme_version_serves(SME_MOVE_VERSION - 1));
+    CHECK(sme_version_serves(SME_MOVE_VERSION + 1));
+    CHECK(sme_version_serves(65536 * (SME_MOVE_VERSION_MAJOR + 1)));
 }
 
 /* By number, as hosts get it. */

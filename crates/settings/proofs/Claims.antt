@@ -7,14 +7,14 @@ use mathlib.Core.List.{List, [], _∷_}
 use mathlib.Core.Logic.{_⊎_, inl, inr}
 use native.Mathlib.Omega.{arith}
 use lib.Dec.{leb}
-use borrow.Author.Tests.{leb-true, le-leb}
+use borrow.Author.Tests.{leb-true, le-leb, eqb-true, not-false}
 use Rattle.general.specs.Determined.{IsOneOf}
 use Rattle.general.proofs.BoolLaws.{and-parts, by-test}
 use Rattle.general.proofs.DeterminedLaws.{equal-determines, one-of-test, other-number}
 use Rattle.settings.specs.Answer.{done, badSettings, checkedNumber}
 use Rattle.settings.specs.Settings.{isVectorLength, validSettings, checkOf, checkNumber, Checks, settingsOf, makeOf, Makes, lengthsOf, lengthNumbers, Measures}
-use Rattle.settings.specs.Lent.{isOn}
-use Rattle.settings.specs.Claims.{five, FiveLengths, LengthsGoByLength, Items, Plain, ItemsChange, LentSettings, ChecksDetermine, MakesDetermine, MeasuresDetermine, SettingsDetermine}
+use Rattle.settings.specs.Lent.{isOn, noSettings, settingsIn}
+use Rattle.settings.specs.Claims.{five, FiveLengths, LengthsGoByLength, Items, Plain, ItemsChange, NoMachine, LentSettings, ChecksDetermine, MakesDetermine, MeasuresDetermine, SettingsDetermine}
 use Rattle.settings.specs.declared.Settings.{Settings}
 use Rattle.settings.specs.declared.Checked.{Checked}
 use Rattle.settings.specs.declared.Checked.the-variants.{Valid, BadSettings}
@@ -74,16 +74,24 @@ switch : (b : Bool) → isOn (cond b 1 0) ≡ b
 switch true = refl
 switch false = refl
 
-pub lent-settings : LentSettings
+-- no vector has 0 bytes
+no-machine : (s : Settings) → noSettings ≡ s → NoMachine s
 unfolding isVectorLength
+no-machine s e = record { check = ap checkNumber (sym e); length = ap (λ (s : Settings). isVectorLength (s .«vector_bytes»)) (sym e) }
+
+off-is-0 : (n : ℕ) → isOn n ≡ false → n ≡ 0
+off-is-0 n e = eqb-true n 0 (not-false _ e)
+
+pub lent-settings : LentSettings
 lent-settings = record {
-  all = λ s. rw (switch (s .streaming), switch (s .za));
-  two = λ B l. items;
-  three = λ B l a. items;
-  four = λ B l a b. items;
-  five = λ B l a b c. items;
-  few = λ l h. ap checkNumber (sym (settings-few l h));
-  many = λ l h. ap checkNumber (sym (settings-many l (omega (arith, h)) h));
+  whole = λ s. rw (switch (s .streaming), switch (s .za));
+  off = off-is-0;
+  firstTwo = λ B l. items;
+  firstThree = λ B l a. items;
+  firstFour = λ B l a b. items;
+  allFive = λ B l a b c. items;
+  few = λ l h. no-machine (settingsIn l) (settings-few l h);
+  many = λ l h. no-machine (settingsIn l) (settings-many l (omega (arith, h)) h);
 }
 
 -- settings with a vector length, a level and nothing else

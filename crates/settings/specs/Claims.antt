@@ -1,4 +1,4 @@
--- What the promises of specs/Settings.antt leave open: nothing. Each statement is from the promise alone, whichever function meets it;
+-- What the promises of specs/Settings.antt and Lent.antt leave open: nothing. Each statement is from the promise alone, whichever function meets it;
 -- proofs/Claims.antt proves each. Renders 01 §2, §6 and §9.
 -- Assumes nothing.
 use Prim.Native.Nat.{ℕ, _*_, _/_, _<_, _≤_}
@@ -55,15 +55,22 @@ ItemsChange = (s : Settings) → WithsChange s
 abbrev pub numbersOf : Settings → List ℕ
 numbersOf s = s .«vector_bytes» ∷ s .level ∷ cond (s .streaming) 1 0 ∷ cond (s .za) 1 0 ∷ s .«memory_address» ∷ []
 
--- settings that a host gives as numbers: any can be given; what is missing is as in new settings; with too few or too many the answer is 1
+-- settings that no machine has: every check of them is answered 1, and so is the question for the lengths
+pub record NoMachine (s : Settings) : Type 0 where
+  pub check : checkNumber s ≡ 1
+  pub length : isVectorLength (s .«vector_bytes») ≡ false
+
+-- settings that a host gives as numbers: any can be given; a switch is off by 0 alone; what is missing is as in new settings; too few or too many are
+-- settings that no machine has
 pub record LentSettings : Type 0 where
-  pub all : (s : Settings) → settingsIn (numbersOf s) ≡ s
-  pub two : (B l : ℕ) → Plain (settingsIn (B ∷ l ∷ [])) B l
-  pub three : (B l a : ℕ) → Items (settingsIn (B ∷ l ∷ a ∷ [])) B l (isOn a) false 0
-  pub four : (B l a b : ℕ) → Items (settingsIn (B ∷ l ∷ a ∷ b ∷ [])) B l (isOn a) (isOn b) 0
-  pub five : (B l a b c : ℕ) → Items (settingsIn (B ∷ l ∷ a ∷ b ∷ c ∷ [])) B l (isOn a) (isOn b) c
-  pub few : (l : List ℕ) → length l < 2 → checkNumber (settingsIn l) ≡ 1
-  pub many : (l : List ℕ) → 5 < length l → checkNumber (settingsIn l) ≡ 1
+  pub whole : (s : Settings) → settingsIn (numbersOf s) ≡ s
+  pub off : (n : ℕ) → isOn n ≡ false → n ≡ 0
+  pub firstTwo : (B l : ℕ) → Plain (settingsIn (B ∷ l ∷ [])) B l
+  pub firstThree : (B l a : ℕ) → Items (settingsIn (B ∷ l ∷ a ∷ [])) B l (isOn a) false 0
+  pub firstFour : (B l a b : ℕ) → Items (settingsIn (B ∷ l ∷ a ∷ b ∷ [])) B l (isOn a) (isOn b) 0
+  pub allFive : (B l a b c : ℕ) → Items (settingsIn (B ∷ l ∷ a ∷ b ∷ c ∷ [])) B l (isOn a) (isOn b) c
+  pub few : (l : List ℕ) → length l < 2 → NoMachine (settingsIn l)
+  pub many : (l : List ℕ) → 5 < length l → NoMachine (settingsIn l)
 
 -- checking: one answer, 0 exactly if the vector length is one of the five and the level at most 3, else 1
 pub record ChecksDetermine (s : Settings) : Type 0 where

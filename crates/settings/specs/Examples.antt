@@ -61,7 +61,7 @@ pub record SettingsExamplesHold : Type 0 where
   pub address : withMemoryAddress (having 37 9 true false 4097) 8190 ≡ having 37 9 true false 8190
   pub addressBack : withMemoryAddress (having 37 9 false true 4097) 0 ≡ having 37 9 false true 0
   -- given as numbers: all, any but 0 being on; missing ones; too few and too many
-  pub given : map settingsIn ((37 ∷ 9 ∷ 0 ∷ 1 ∷ 4097 ∷ []) ∷ (37 ∷ 9 ∷ 2 ∷ 0 ∷ 0x1_0000_0001 ∷ []) ∷ []) ≡ having 37 9 false true 4097 ∷ having 37 9 true false 0x1_0000_0001 ∷ []
+  pub given : map settingsIn ((37 ∷ 9 ∷ 0 ∷ 1 ∷ 4097 ∷ []) ∷ (37 ∷ 9 ∷ 0x1_0000_0000 ∷ 0 ∷ 0x1_0000_0001 ∷ []) ∷ []) ≡ having 37 9 false true 4097 ∷ having 37 9 true false 0x1_0000_0001 ∷ []
   pub missing : map settingsIn ((64 ∷ 3 ∷ []) ∷ (64 ∷ 3 ∷ 1 ∷ []) ∷ (64 ∷ 3 ∷ 1 ∷ 1 ∷ []) ∷ []) ≡ having 64 3 false false 0 ∷ having 64 3 true false 0 ∷ having 64 3 true true 0 ∷ []
   pub notGiven : map (λ l. checkNumber (settingsIn l)) ([] ∷ (64 ∷ []) ∷ (64 ∷ 3 ∷ []) ∷ (64 ∷ 3 ∷ 1 ∷ 1 ∷ 0 ∷ 0 ∷ []) ∷ []) ≡ 1 ∷ 1 ∷ 0 ∷ 1 ∷ []
   -- X in numbers, Z, P and ZA in bytes, at each vector length

@@ -2,22 +2,25 @@
 -- Assumes nothing.
 use Prim.Native.Nat.{ℕ, zero, suc, _<_, _≤_}
 use mathlib.Core.Path.{_≡_, refl, sym, ap, _∙_, subst}
-use mathlib.Core.Bool.{Bool, cond}
+use mathlib.Core.Bool.{Bool, true, false, cond}
 use mathlib.Core.List.{List, [], _∷_}
 use mathlib.Core.Logic.{inl, inr}
 use native.Mathlib.Nat.{not-suc-le-zero, le-of-suc-le-suc}
+use native.Mathlib.Omega.{arith}
 use lib.ListN.{length, getD}
 use borrow.Author.Tests.{eq-eqb, ne-eqb}
 use Rattle.general.specs.Determined.{IsOneOf}
 use Rattle.general.proofs.DeterminedLaws.{equal-determines, one-of-test, other-number}
-use Rattle.settings.specs.Answer.{Answer, firstValue, done}
-use Rattle.settings.specs.Settings.{isVectorLength, lengthsOf, lengthNumbers}
+use Rattle.settings.specs.Answer.{Answer, answerWith, firstValue, done, badSettings}
+use Rattle.settings.specs.Settings.{isVectorLength, validSettings, lengthsOf, lengthNumbers}
+use Rattle.settings.specs.Lent.{settingsIn}
 use Rattle.settings.specs.declared.Settings.{Settings}
-use Rattle.settings.proofs.Claims.{passed}
+use Rattle.settings.proofs.Claims.{passed, lent-settings}
 use Rattle.encoding.specs.Codec.{decodeAnswer, encodeAnswer}
 use Rattle.encoding.proofs.AnswerLaws.{decode-answered, encode-answered}
 use Rattle.semantics.specs.Answer.{executedNumber, executedAddress}
-use Rattle.semantics.specs.State.{State}
+use Rattle.semantics.specs.State.{State, publicOf}
+use Rattle.semantics.specs.Lines.{answerInNumbers}
 use Rattle.semantics.specs.Execute.{executeOf}
 use Rattle.semantics.specs.declared.answer.Refusal.{Refusal}
 use Rattle.semantics.specs.declared.answer.Refusal.the-variants.{BadSettings, BadLengths, Undecodable, StreamingOff, ZaOff, StackMisaligned, OutsideMemory}
@@ -25,7 +28,7 @@ use Rattle.semantics.specs.declared.answer.Executed.{Executed}
 use Rattle.semantics.specs.declared.answer.Executed.the-variants.{Done, Refused}
 use Rattle.semantics.proofs.Claims.{definition-executes, executing-determines}
 use Rattle.sme_move.specs.Export.{filled, resultNumbers, Exports, fieldsAfter, DecodeExports, EncodeExports, LengthExports}
-use Rattle.sme_move.specs.Claims.{ExportsDetermine, FilledIs, DecodeExportsDetermine, EncodeExportsDetermine, LengthExportsDetermine, ExportsAllDetermine}
+use Rattle.sme_move.specs.Claims.{ExportsDetermine, FilledIs, DecodeExportsDetermine, EncodeExportsDetermine, LengthExportsDetermine, AnswersNoMachine, ExportsAllDetermine}
 
 -- ---- execution
 
@@ -125,6 +128,27 @@ length-exports-determine s l = record {
     allowed : Bool
     allowed = isVectorLength (s .«vector_bytes»)
 
+-- ---- too few or too many settings
+
+-- a test that gives 1 did not pass
+invalid : (b : Bool) → cond b done badSettings ≡ 1 → b ≡ false
+invalid true e = absurd (omega arith)
+invalid false e = refl
+
+no-machine : (s : Settings) → validSettings s ≡ false → isVectorLength (s .«vector_bytes») ≡ false → AnswersNoMachine s
+unfolding answerInNumbers
+no-machine s e f = record {
+  executes = λ w t rs r rs′ t′ p.
+      let q = exports-determine s w t rs in
+      let one = q .table r rs′ t′ p .0 ∙ ap (λ (a : Answer). a .number) (bad-settings w t) in
+      (one, q .address r rs′ t′ p (λ g. omega (arith, one, g)), q .refused r rs′ t′ p (λ g. omega (arith, one, g)));
+  checks = rw e;
+  lengths = λ l r l′ p. (p .number ∙ rw f, p .lengths ∙ rw f);
+}
+  where
+    bad-settings : (w : ℕ) (t : State) → answerInNumbers s w (publicOf t) ≡ answerWith badSettings []
+    bad-settings w t = rw e
+
 pub exports-all-determine : ExportsAllDetermine
 exports-all-determine = record {
   executes = exports-determine;
@@ -132,4 +156,6 @@ exports-all-determine = record {
   decodes = decode-exports-determine;
   encodes = encode-exports-determine;
   lengths = length-exports-determine;
+  few = λ given h. let q = lent-settings .few given h in no-machine (settingsIn given) (invalid _ (q .check)) (q .length);
+  many = λ given h. let q = lent-settings .many given h in no-machine (settingsIn given) (invalid _ (q .check)) (q .length);
 }

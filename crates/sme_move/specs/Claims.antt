@@ -7,6 +7,8 @@ use mathlib.Core.List.{List, [], _∷_}
 use lib.ListN.{length, getD}
 use Rattle.general.specs.Determined.{Determined, Met, IsOneOf}
 use Rattle.settings.specs.Answer.{firstValue}
+use Rattle.settings.specs.Settings.{checkNumber}
+use Rattle.settings.specs.Lent.{settingsIn}
 use Rattle.settings.specs.declared.Settings.{Settings}
 use Rattle.encoding.specs.Codec.{decodeAnswer, encodeAnswer}
 use Rattle.semantics.specs.State.{State, publicOf}
@@ -51,9 +53,18 @@ pub record LengthExportsDetermine (s : Settings) (l : List ℕ) : Type 0 where
   pub done : (r : ℕ) (l′ : List ℕ) → LengthExports s l r l′ → r ≡ 0 → l′ ≡ 32 ∷ (32 * s .«vector_bytes») ∷ (16 * (s .«vector_bytes» / 8)) ∷ (s .«vector_bytes» * s .«vector_bytes») ∷ []
   pub refused : (r : ℕ) (l′ : List ℕ) → LengthExports s l r l′ → (r ≡ 0 → ⊥) → l′ ≡ l
 
+-- settings that no machine has: every question is answered 1, with address 0, and every buffer stays
+pub record AnswersNoMachine (s : Settings) : Type 0 where
+  pub executes : (w : ℕ) (t : State) (rs : List ℕ) (r : ℕ) (rs′ : List ℕ) (t′ : State) → Exports s w t rs r rs′ t′ → (r ≡ 1) × (rs′ ≡ filled (0 ∷ []) rs) × (t′ ≡ t)
+  pub checks : checkNumber s ≡ 1
+  pub lengths : (l : List ℕ) (r : ℕ) (l′ : List ℕ) → LengthExports s l r l′ → (r ≡ 1) × (l′ ≡ l)
+
 pub record ExportsAllDetermine : Type 0 where
   pub executes : (s : Settings) (w : ℕ) (t : State) (rs : List ℕ) → ExportsDetermine s w t rs
   pub results : (ns old : List ℕ) → FilledIs ns old
   pub decodes : (w level : ℕ) (f : List ℕ) → DecodeExportsDetermine w level f
   pub encodes : (f : List ℕ) → EncodeExportsDetermine f
   pub lengths : (s : Settings) (l : List ℕ) → LengthExportsDetermine s l
+  -- by their count alone
+  pub few : (given : List ℕ) → length given < 2 → AnswersNoMachine (settingsIn given)
+  pub many : (given : List ℕ) → 5 < length given → AnswersNoMachine (settingsIn given)

@@ -82,3 +82,10 @@ fn each_item_counts() {
         assert_ne!(own, other);
     }
 }
+
+/// An older archive does not link; another one than this package is written for would be a mistake of this repository.
+#[test]
+fn the_archive_has_the_version_of_the_package() {
+    assert_eq!(sme_move::numbers::version(), sme_move::numbers::VERSION);
+    assert_eq!(sme_move::numbers::VERSION, 5);
+}
