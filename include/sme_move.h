@@ -202,7 +202,6 @@ uint32_t sme_version_0_5(void);
  *
  * settings, settings_count
  *                 an array as of enum sme_setting
- * word            the instruction word
  * x, x_count      31 general-purpose registers and, as number 31, the stack pointer; read only
  * z, z_bytes      32 vector registers of B bytes, one after another
  * p, p_bytes      16 predicate registers of B/8 bytes, one after another, a bit for each byte of a
@@ -212,14 +211,15 @@ uint32_t sme_version_0_5(void);
  *                 memory of any length, from the settings' memory address on
  * results, results_count
  *                 an array as of enum sme_result, written whatever the answer
+ * word            the instruction word
  *
  * Returns an enum sme_answer from 0 to 7. Only answer 0 changes z, za or memory. Only a store writes memory, and it
  * writes nothing else; a load writes za only, also where no element is active.
  */
-uint32_t sme_execute_word(const uint64_t *settings, size_t settings_count, uint32_t word, const uint64_t *x,
-                          size_t x_count, uint8_t *z, size_t z_bytes, const uint8_t *p, size_t p_bytes,
-                          uint8_t *za, size_t za_bytes, uint8_t *memory, size_t memory_bytes,
-                          uint64_t *results, size_t results_count);
+uint32_t sme_execute_word(const uint64_t *settings, size_t settings_count, const uint64_t *x, size_t x_count,
+                          uint8_t *z, size_t z_bytes, const uint8_t *p, size_t p_bytes, uint8_t *za,
+                          size_t za_bytes, uint8_t *memory, size_t memory_bytes, uint64_t *results,
+                          size_t results_count, uint32_t word);
 
 /*
  * Decodes a word at a feature level.
@@ -478,9 +478,9 @@ static inline uint32_t sme_settings_execute(sme_settings settings, uint32_t word
 {
     uint64_t given[SME_SETTING_COUNT];
     sme_settings_give(settings, given);
-    return sme_execute_word(given, SME_SETTING_COUNT, word, buffers.x, buffers.x_count, buffers.z, buffers.z_bytes,
+    return sme_execute_word(given, SME_SETTING_COUNT, buffers.x, buffers.x_count, buffers.z, buffers.z_bytes,
                             buffers.p, buffers.p_bytes, buffers.za, buffers.za_bytes, buffers.memory,
-                            buffers.memory_bytes, address, 1);
+                            buffers.memory_bytes, address, 1, word);
 }
 
 /* No held tiles. */

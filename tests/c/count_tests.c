@@ -57,9 +57,9 @@ static void execute_with(size_t count, size_t places)
     set_x(&own, 12, 0);
     const sme_buffers lent = lend(&own);
     uint64_t *written = places == 0 ? NULL : (uint64_t *)(void *)results.bytes;
-    uint32_t answer = sme_execute_word(numbers_of(&given), count, load, lent.x, lent.x_count, lent.z, lent.z_bytes,
-                                       lent.p, lent.p_bytes, lent.za, lent.za_bytes, lent.memory, lent.memory_bytes,
-                                       written, places);
+    uint32_t answer = sme_execute_word(numbers_of(&given), count, lent.x, lent.x_count, lent.z, lent.z_bytes, lent.p,
+                                       lent.p_bytes, lent.za, lent.za_bytes, lent.memory, lent.memory_bytes, written,
+                                       places, load);
     CHECK_EQUAL(answer, answer_with(count));
     const uint64_t address = answer == SME_OUTSIDE_MEMORY ? 0x1000 : 0;
     if (places > 0) {

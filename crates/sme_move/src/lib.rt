@@ -24,13 +24,13 @@ pub extern "C" fn sme_version_0_5() -> u32
 #[no_mangle]
 pub extern "C" fn sme_execute_word(
     given: &[u64],
-    word: u32,
     x: &[u64],
     z: &mut [u8],
     p: &[u8],
     za: &mut [u8],
     memory: &mut [u8],
     results: &mut [u64],
+    word: u32,
 ) -> u32
     ensures { λ r. ⌜ Exports (settingsIn (now (given .entry))) word (stateOf (now (x .entry)) (now (z .entry)) (now (p .entry)) (now (za .entry)) (now (memory .entry))) (now (results .entry)) r (now (results .exit)) (stateOf (now (x .entry)) (now (z .exit)) (now (p .entry)) (now (za .exit)) (now (memory .exit))) ⌝ }
 {

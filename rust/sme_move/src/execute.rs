@@ -29,6 +29,7 @@ pub struct Buffers<'a> {
 /// assert_eq!(execute(settings, 0xC0000000, buffers), Err(Refusal::ZaOff));
 /// # Ok::<(), Refusal>(())
 /// ```
+#[inline]
 pub fn execute(settings: Settings, word: u32, buffers: Buffers<'_>) -> Result<(), Refusal> {
     let (number, address) = numbers::execute(settings, word, buffers);
     Refusal::check(number, address)

@@ -12,7 +12,6 @@ extern "C" {
     fn sme_execute_word(
         settings: *const u64,
         settings_len: usize,
-        word: u32,
         x: *const u64,
         x_len: usize,
         z: *mut u8,
@@ -25,6 +24,7 @@ extern "C" {
         memory_len: usize,
         results: *mut u64,
         results_len: usize,
+        word: u32,
     ) -> u32;
     fn sme_decode(word: u32, level: u64, fields: *mut [u8; 11]) -> u32;
     fn sme_encode(fields: *const [u8; 11], word: *mut u32) -> u32;
@@ -67,6 +67,7 @@ pub fn version() -> u32 {
 static NEEDED: unsafe extern "C" fn() -> u32 = sme_version_0_5;
 
 /// The settings as the archive's functions take them.
+#[inline]
 fn given(settings: Settings) -> [u64; 5] {
     let Settings {
         vector_bytes,
@@ -85,6 +86,7 @@ fn given(settings: Settings) -> [u64; 5] {
 }
 
 /// Executes a word: the answer's number, and the address that 7 carries, 0 with every other.
+#[inline]
 pub fn execute(settings: Settings, word: u32, buffers: Buffers<'_>) -> (u32, u64) {
     let Buffers {
         x,
@@ -102,7 +104,6 @@ pub fn execute(settings: Settings, word: u32, buffers: Buffers<'_>) -> (u32, u64
         sme_execute_word(
             given.as_ptr(),
             given.len(),
-            word,
             x.as_ptr(),
             x.len(),
             z.as_mut_ptr(),
@@ -115,6 +116,7 @@ pub fn execute(settings: Settings, word: u32, buffers: Buffers<'_>) -> (u32, u64
             memory.len(),
             &mut address,
             1,
+            word,
         )
     };
     (number, address)

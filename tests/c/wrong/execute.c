@@ -196,14 +196,14 @@ static void spoil(const mistake *wrong, call *own)
 }
 
 /* What the linker makes of the tests' calls, and how it lets this file call the archive. */
-uint32_t __wrap_sme_execute_word(const uint64_t *settings, size_t settings_count, uint32_t word, const uint64_t *x,
-                                 size_t x_count, uint8_t *z, size_t z_bytes, const uint8_t *p, size_t p_bytes,
-                                 uint8_t *za, size_t za_bytes, uint8_t *memory, size_t memory_bytes,
-                                 uint64_t *results, size_t results_count);
-uint32_t __real_sme_execute_word(const uint64_t *settings, size_t settings_count, uint32_t word, const uint64_t *x,
-                                 size_t x_count, uint8_t *z, size_t z_bytes, const uint8_t *p, size_t p_bytes,
-                                 uint8_t *za, size_t za_bytes, uint8_t *memory, size_t memory_bytes,
-                                 uint64_t *results, size_t results_count);
+uint32_t __wrap_sme_execute_word(const uint64_t *settings, size_t settings_count, const uint64_t *x, size_t x_count,
+                                 uint8_t *z, size_t z_bytes, const uint8_t *p, size_t p_bytes, uint8_t *za,
+                                 size_t za_bytes, uint8_t *memory, size_t memory_bytes, uint64_t *results,
+                                 size_t results_count, uint32_t word);
+uint32_t __real_sme_execute_word(const uint64_t *settings, size_t settings_count, const uint64_t *x, size_t x_count,
+                                 uint8_t *z, size_t z_bytes, const uint8_t *p, size_t p_bytes, uint8_t *za,
+                                 size_t za_bytes, uint8_t *memory, size_t memory_bytes, uint64_t *results,
+                                 size_t results_count, uint32_t word);
 
 static uint32_t hand_on(call own)
 {
@@ -211,15 +211,15 @@ static uint32_t hand_on(call own)
     uint64_t given[SME_SETTING_COUNT];
     sme_settings_give(own.settings, given);
     /* A count that is too large is handed on as such; nothing behind the settings is then read. */
-    return __real_sme_execute_word(given, own.settings_count, own.word, lent->x, lent->x_count, lent->z, lent->z_bytes,
-                                   lent->p, lent->p_bytes, lent->za, lent->za_bytes, lent->memory, lent->memory_bytes,
-                                   own.results, own.results_count);
+    return __real_sme_execute_word(given, own.settings_count, lent->x, lent->x_count, lent->z, lent->z_bytes, lent->p,
+                                   lent->p_bytes, lent->za, lent->za_bytes, lent->memory, lent->memory_bytes,
+                                   own.results, own.results_count, own.word);
 }
 
-uint32_t __wrap_sme_execute_word(const uint64_t *settings, size_t settings_count, uint32_t word, const uint64_t *x,
-                                 size_t x_count, uint8_t *z, size_t z_bytes, const uint8_t *p, size_t p_bytes,
-                                 uint8_t *za, size_t za_bytes, uint8_t *memory, size_t memory_bytes,
-                                 uint64_t *results, size_t results_count)
+uint32_t __wrap_sme_execute_word(const uint64_t *settings, size_t settings_count, const uint64_t *x, size_t x_count,
+                                 uint8_t *z, size_t z_bytes, const uint8_t *p, size_t p_bytes, uint8_t *za,
+                                 size_t za_bytes, uint8_t *memory, size_t memory_bytes, uint64_t *results,
+                                 size_t results_count, uint32_t word)
 {
     uint64_t all[SME_SETTING_COUNT] = {0};
     for (size_t i = 0; i < settings_count && i < SME_SETTING_COUNT; i++) {

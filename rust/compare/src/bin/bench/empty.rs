@@ -9,7 +9,6 @@ use std::hint::black_box;
 type Function = extern "C" fn(
     *const u64,
     usize,
-    u32,
     *const u64,
     usize,
     *mut u8,
@@ -22,6 +21,7 @@ type Function = extern "C" fn(
     usize,
     &mut u64,
     usize,
+    u32,
 ) -> u32;
 
 /// Takes what the archive's function takes, and is done at once.
@@ -29,7 +29,6 @@ type Function = extern "C" fn(
 extern "C" fn nothing(
     _: *const u64,
     _: usize,
-    _: u32,
     _: *const u64,
     _: usize,
     _: *mut u8,
@@ -42,6 +41,7 @@ extern "C" fn nothing(
     _: usize,
     address: &mut u64,
     _: usize,
+    _: u32,
 ) -> u32 {
     *address = 0;
     0
@@ -63,7 +63,6 @@ pub fn execute(settings: Settings, word: u32, buffers: Buffers<'_>) -> (u32, u64
     let answer = function(
         given.as_ptr(),
         given.len(),
-        word,
         buffers.x.as_ptr(),
         buffers.x.len(),
         buffers.z.as_mut_ptr(),
@@ -76,6 +75,7 @@ pub fn execute(settings: Settings, word: u32, buffers: Buffers<'_>) -> (u32, u64
         buffers.memory.len(),
         &mut address,
         1,
+        word,
     );
     (answer, address)
 }
