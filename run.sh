@@ -7,6 +7,8 @@ set -euo pipefail
 root=$(cd "$(dirname "$(readlink -f "${BASH_SOURCE[0]}")")" && pwd)
 archive=$root/target/staticlib/libsme_move.a
 runner=${CARGO_TARGET_DIR:-$root/rust/target}/release/runner
+# Its presence says that the runner was built on the archive that is proved here.
+own=$runner.own
 
 # fresh FILE SOURCE...: it is there, and nothing among the sources is newer
 fresh() {
@@ -16,7 +18,7 @@ fresh() {
 # need COMMAND FROM: it is there, or what it comes with is said
 need() {
     command -v "$1" >/dev/null || {
-        echo "run.sh: there is no $1 on this machine: it comes with $2 (README.md, 'Toolchain')" >&2
+        echo "run.sh: there is no $1 on PATH: it comes with $2 (README.md, 'Toolchain')" >&2
         exit 2
     }
 }
@@ -52,7 +54,7 @@ progress() {
 }
 
 prove() {
-    need rt 'the Rattle kit'
+    need rt 'the Rattle kit, a folder that its makers hand out'
     echo 'run.sh: proving and building the unit, which takes some minutes the first time' >&2
     log=$(mktemp)
     trap 'rm -f "$log"' EXIT
@@ -64,16 +66,30 @@ prove() {
     rm -f "$log"
 }
 
-# With an archive from elsewhere, as the binding takes it, there is nothing to prove here.
-if [ -n "${SME_MOVE_LIB_DIR:-}" ]; then
-    archive=$SME_MOVE_LIB_DIR/libsme_move.a
-elif ! fresh "$archive" "$root/crates" "$root/crates.txt"; then
-    prove
-fi
-if ! fresh "$runner" "$root/rust/runner" "$root/rust/sme_move" "$root/rust/Cargo.toml" "$archive"; then
-    need cargo 'Rust'
+build() {
+    need cargo 'Rust, from rustup or from packages of the system'
     cargo build --quiet --release --offline --manifest-path "$root/rust/Cargo.toml" -p runner
     # An archive that was built anew and is the same leaves the runner as it is.
     touch "$runner"
+}
+
+# With an archive from elsewhere, as the binding takes it, there is nothing to prove here, and cargo knows whether the
+# runner was built on it.
+if [ -n "${SME_MOVE_LIB_DIR:-}" ]; then
+    if [ ! -f "$SME_MOVE_LIB_DIR/libsme_move.a" ]; then
+        echo "run.sh: SME_MOVE_LIB_DIR: there is no libsme_move.a in $SME_MOVE_LIB_DIR" >&2
+        exit 2
+    fi
+    SME_MOVE_LIB_DIR=$(cd "$SME_MOVE_LIB_DIR" && pwd)
+    export SME_MOVE_LIB_DIR
+    rm -f "$own"
+    build
+else
+    fresh "$archive" "$root/crates" "$root/crates.txt" || prove
+    sources=("$root/rust/runner" "$root/rust/sme_move" "$root/rust/Cargo.toml" "$archive")
+    if [ ! -e "$own" ] || ! fresh "$runner" "${sources[@]}"; then
+        build
+        touch "$own"
+    fi
 fi
 exec "$runner" "$@"

@@ -508,7 +508,8 @@ static inline uint32_t sme_held_give_up(sme_held *held, uint64_t element_bytes, 
 
 /*
  * What the archive had before version 0.5, for source that calls it: one parameter for each setting, and the address
- * as a place of its own. An object file that was made with the header of that time does not link with this archive.
+ * as a place of its own. An object file that was made with the header of that time and calls one of these does not link
+ * with this archive.
  */
 static inline uint32_t sme_execute(uint64_t vector_bytes, uint64_t level, bool streaming, bool za_on,
                                    uint64_t memory_address, uint32_t word, const uint64_t *x, size_t x_count,

@@ -1,6 +1,6 @@
 #!/usr/bin/env bash
 # Runs the examples: the hosts in C and in Rust, which must print what stands in a file of examples/, and the scripts, in
-# each of which every word must be done and everything be as the script expects.
+# each of which every word must be done, or refused as the script expects, and everything be as it expects.
 # Build first: rt staticlib sme_move. SME_MOVE_LIB_DIR is the folder of another archive.
 set -euo pipefail
 root=$(cd "$(dirname "$0")/.." && pwd)

@@ -4,6 +4,7 @@ mod given;
 mod tasks;
 
 use crate::input::Source;
+use crate::outputs::Outputs;
 use crate::paint::ColorChoice;
 use crate::take::Question;
 use given::Given;
@@ -44,14 +45,6 @@ pub enum Form {
     Full,
     Brief,
     Json,
-}
-
-/// Files that get bytes at the end of a run.
-#[derive(Default)]
-pub struct Outputs {
-    pub words: Option<OsString>,
-    pub memory: Option<OsString>,
-    pub array: Option<OsString>,
 }
 
 /// The array that is shown, and where its drawing goes if that is wanted and no table.

@@ -1,9 +1,10 @@
 //! What the program does, and its exit status.
 
-use crate::arguments::{self, Command, Form, Outputs, Running, Sheet, Task};
+use crate::arguments::{self, Command, Form, Running, Sheet, Task};
 use crate::document::Document;
 use crate::input::Source;
 use crate::machine::Machine;
+use crate::outputs::Outputs;
 use crate::paint::{Paint, View};
 use crate::report::{Brief, Report};
 use crate::run::{Observer, Tally};
@@ -118,7 +119,8 @@ fn verdict_on(tally: &Tally, name: &str) -> Result<(), Failure> {
     };
     let more = match tally.unmet + tally.not_allowed - 1 {
         0 => String::new(),
-        more => format!(" ({more} more such after it)"),
+        1 => " (1 more failure after it)".to_string(),
+        more => format!(" ({more} more failures after it)"),
     };
     Err(Failure::Run(format!("{name}:{line}: {headline}{more}")))
 }

@@ -63,7 +63,9 @@ fn text_of(bytes: Vec<u8>) -> Result<String, Fault> {
     }
     if bytes.len() as u64 > MAX_BYTES {
         let limit = MAX_BYTES >> 20;
-        return Err(Fault::of_file(format!("the file has more than {limit} MB")));
+        return Err(Fault::of_file(format!(
+            "the file has more than {limit} MiB"
+        )));
     }
     if let Some(mark) = WIDE_MARKS.into_iter().find(|mark| bytes.starts_with(mark)) {
         let [first, second] = mark;
@@ -117,6 +119,6 @@ mod tests {
             "k.txt:3: the line is not UTF-8 text"
         );
         let huge = vec![b'#'; MAX_BYTES as usize + 1];
-        assert_eq!(message(&huge), "k.txt: the file has more than 16 MB");
+        assert_eq!(message(&huge), "k.txt: the file has more than 16 MiB");
     }
 }

@@ -23,6 +23,7 @@ mod machine;
 mod map;
 mod map_svg;
 mod operation;
+mod outputs;
 mod paint;
 mod report;
 mod run;

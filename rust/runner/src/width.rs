@@ -2,8 +2,8 @@
 
 use crate::digits::decimal;
 use std::env;
-use std::fs::File;
 use std::io::{self, IsTerminal};
+use std::os::fd::AsFd;
 use std::process::{Command, Stdio};
 
 /// Where output goes to a file or another program.
@@ -20,9 +20,9 @@ pub fn of_output() -> usize {
     width.or_else(asked).unwrap_or(DEFAULT)
 }
 
-/// What `stty` says of the terminal: its rows and its columns.
+/// What `stty` says of the terminal that output goes to: its rows and its columns. It looks at its own input.
 fn asked() -> Option<usize> {
-    let terminal = File::open("/dev/tty").ok()?;
+    let terminal = io::stdout().as_fd().try_clone_to_owned().ok()?;
     let mut command = Command::new("stty");
     command.arg("size").stdin(terminal).stderr(Stdio::null());
     let output = command.output().ok()?;

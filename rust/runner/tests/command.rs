@@ -59,7 +59,7 @@ fn a_file_that_is_too_long_is_refused() {
     file.set_len((16 << 20) + 1).expect("the file can grow");
     refused(
         &run(&[name]),
-        &format!("{name}: the file has more than 16 MB"),
+        &format!("{name}: the file has more than 16 MiB"),
     );
     std::fs::remove_file(name).expect("the file is there");
 }

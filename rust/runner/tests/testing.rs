@@ -269,8 +269,12 @@ fn files_of_bytes_are_checked() {
 #[test]
 fn a_file_that_cannot_be_written_is_said() {
     let folder = folder("outputs");
+    fs::write(folder.join("kernel.txt"), KERNEL).expect("the file can be written");
     for option in ["--words-out", "--memory-out", "--array-out"] {
-        let output = run_in(&folder, &[option, "no/such/folder", "--quiet"]);
+        let output = run_in(
+            &folder,
+            &[option, "no/such/folder", "--quiet", "kernel.txt"],
+        );
         assert_eq!(output.status.code(), Some(1));
         assert!(output
             .stderr
@@ -279,4 +283,40 @@ fn a_file_that_cannot_be_written_is_said() {
         let message = format!("runner: {option} takes a file, not - (--help says more)\n");
         ends(&output, 2, "", &message);
     }
+}
+
+#[test]
+fn no_output_costs_a_script_or_another_output() {
+    let folder = folder("overwriting");
+    fs::write(folder.join("kernel.txt"), KERNEL).expect("the file can be written");
+    for (line, message) in [
+        (
+            "--words-out kernel.txt kernel.txt",
+            "--words-out would overwrite the script",
+        ),
+        (
+            "--array-out ../overwriting/kernel.txt ./kernel.txt",
+            "--array-out would overwrite the script",
+        ),
+        // The script's name was forgotten, or taken for the output's.
+        (
+            "--memory-out kernel.txt",
+            "--memory-out goes only with a script",
+        ),
+        (
+            "--words-out w --memory-out ./w kernel.txt",
+            "--words-out and --memory-out name one file",
+        ),
+    ] {
+        let output = run_in(&folder, &line.split(' ').collect::<Vec<_>>());
+        ends(
+            &output,
+            2,
+            "",
+            &format!("runner: {message} (--help says more)\n"),
+        );
+    }
+    let kept = fs::read_to_string(folder.join("kernel.txt"));
+    assert_eq!(kept.expect("the script is there"), KERNEL);
+    fs::remove_dir_all(&folder).expect("the folder is there");
 }

@@ -1,9 +1,10 @@
 //! Which task a command line asks for.
 
 use super::given::Given;
-use super::{Form, Outputs, Running, Sheet, Task};
+use super::{Form, Running, Sheet, Task};
 use crate::digits::{decimal, word};
 use crate::input::Source;
+use crate::outputs::Outputs;
 use crate::script::vector_bytes;
 use crate::take::Question;
 use crate::tile::named;
@@ -138,15 +139,17 @@ impl Given {
             (false, true) => Form::Json,
             (true, true) => return Err(together("--quiet", "--json")),
         };
+        let outputs = Outputs {
+            words: self.output("--words-out")?,
+            memory: self.output("--memory-out")?,
+            array: self.output("--array-out")?,
+        };
+        outputs.check(&source)?;
         Ok(Task::Run(Running {
             source,
             strict: self.has("--strict"),
             form,
-            outputs: Outputs {
-                words: self.output("--words-out")?,
-                memory: self.output("--memory-out")?,
-                array: self.output("--array-out")?,
-            },
+            outputs,
         }))
     }
 
