@@ -136,42 +136,40 @@ fn of_memory<'a>(execution: &'a Execution, machine: &'a Machine) -> Grid<'a> {
 
 /// Vector registers at the end of a script.
 pub fn of_final_registers<'a>(machine: &'a Machine, numbers: &[usize]) -> Grid<'a> {
-    let row = |&number: &usize| {
-        let bytes = machine.member(Place::Vector, number);
-        Row {
-            labels: vec![number.to_string()],
-            taken: false,
-            before: bytes,
-            after: bytes,
-        }
-    };
-    Grid {
-        title: "vector registers that words changed, at the end".to_string(),
-        headings: vec!["register"],
-        column: ("byte", GROUP),
-        group: GROUP,
-        rows: numbers.iter().map(row).collect(),
-        taken_group: None,
-    }
+    let row = |&number: &usize| (number.to_string(), machine.member(Place::Vector, number));
+    let rows = numbers.iter().map(row);
+    at_the_end(
+        "vector registers that words changed, at the end",
+        "register",
+        rows,
+    )
 }
 
 /// Rows of memory at the end of a script.
 pub fn of_final_memory<'a>(machine: &'a Machine, rows: &[usize]) -> Grid<'a> {
-    let row = |&number: &usize| {
-        let bytes = machine.memory_row(number);
-        Row {
-            labels: vec![machine.row_address(number)],
-            taken: false,
-            before: bytes,
-            after: bytes,
-        }
+    let row = |&number: &usize| (machine.row_address(number), machine.memory_row(number));
+    let rows = rows.iter().map(row);
+    at_the_end("memory that words changed, at the end", "address", rows)
+}
+
+/// Contents that are shown once, and not before and after a word.
+fn at_the_end<'a>(
+    title: &str,
+    heading: &'static str,
+    rows: impl Iterator<Item = (String, &'a [u8])>,
+) -> Grid<'a> {
+    let row = |(label, bytes)| Row {
+        labels: vec![label],
+        taken: false,
+        before: bytes,
+        after: bytes,
     };
     Grid {
-        title: "memory that words changed, at the end".to_string(),
-        headings: vec!["address"],
+        title: title.to_string(),
+        headings: vec![heading],
         column: ("byte", GROUP),
         group: GROUP,
-        rows: rows.iter().map(row).collect(),
+        rows: rows.map(row).collect(),
         taken_group: None,
     }
 }
