@@ -7,7 +7,7 @@ set -euo pipefail
 root=$(cd "$(dirname "$(readlink -f "${BASH_SOURCE[0]}")")" && pwd)
 archive=$root/target/staticlib/libsme_move.a
 runner=${CARGO_TARGET_DIR:-$root/rust/target}/release/runner
-# Its presence says that the runner was built on the archive that is proved here.
+# Touched when the runner was built on the archive that is proved here: a runner that is newer was built otherwise.
 own=$runner.own
 
 # fresh FILE SOURCE...: it is there, and nothing among the sources is newer
@@ -69,8 +69,6 @@ prove() {
 build() {
     need cargo 'Rust, from rustup or from packages of the system'
     cargo build --quiet --release --offline --manifest-path "$root/rust/Cargo.toml" -p runner
-    # An archive that was built anew and is the same leaves the runner as it is.
-    touch "$runner"
 }
 
 # With an archive from elsewhere, as the binding takes it, there is nothing to prove here, and cargo knows whether the
@@ -87,7 +85,7 @@ if [ -n "${SME_MOVE_LIB_DIR:-}" ]; then
 else
     fresh "$archive" "$root/crates" "$root/crates.txt" || prove
     sources=("$root/rust/runner" "$root/rust/sme_move" "$root/rust/Cargo.toml" "$archive")
-    if [ ! -e "$own" ] || ! fresh "$runner" "${sources[@]}"; then
+    if [ ! -e "$runner" ] || ! fresh "$own" "$runner" "${sources[@]}"; then
         build
         touch "$own"
     fi
