@@ -39,7 +39,7 @@
 
 /* The version of this header; sme_version tells the archive's, and both as one number can be compared. */
 #define SME_MOVE_VERSION_MAJOR 0
-#define SME_MOVE_VERSION_MINOR 5
+#define SME_MOVE_VERSION_MINOR 6
 #define SME_MOVE_VERSION (65536 * SME_MOVE_VERSION_MAJOR + SME_MOVE_VERSION_MINOR)
 
 #ifdef __cplusplus
@@ -66,7 +66,10 @@ enum sme_answer {
     SME_STREAMING_OFF = 4,
     /* the array is off */
     SME_ZA_OFF = 5,
-    /* the stack pointer is the base of a load or store with an active element, and is no multiple of 16 */
+    /*
+     * the stack pointer is the base of a load or store with an active element, and is no multiple of 16; only where the
+     * stack check is on
+     */
     SME_STACK_MISALIGNED = 6,
     /* a byte of an active element is not in memory; comes with the address of the lowest such element's first such
      * byte */
@@ -162,8 +165,9 @@ enum sme_kind {
 
 /*
  * The settings of a machine as an array of numbers; these are their places. The first two must be given. Later ones
- * may be missing, from the end on, and then are as sme_settings_new has them. Fewer than two numbers, or more than
- * there are settings, are settings that no machine has: every call then returns SME_BAD_SETTINGS.
+ * may be missing, from the end on, and then are as sme_settings_new has them, which is 0 for each; so a place that a
+ * host of an earlier version leaves 0 is as if it were missing. Fewer than two numbers, or more than there are settings,
+ * are settings that no machine has: every call then returns SME_BAD_SETTINGS.
  */
 enum sme_setting {
     /* the streaming vector length in bytes, B: 16, 32, 64, 128 or 256 */
@@ -176,6 +180,11 @@ enum sme_setting {
     SME_SETTING_ZA_ON,
     /* the address of memory's first byte */
     SME_SETTING_MEMORY_ADDRESS,
+    /*
+     * whether the stack check is off: 0 is on, any other number off. Where it is off, a stack pointer that is no
+     * multiple of 16 is a base like any other, and no call returns SME_STACK_MISALIGNED
+     */
+    SME_SETTING_STACK_CHECK_OFF,
     /* how many settings this header knows */
     SME_SETTING_COUNT
 };
@@ -195,7 +204,7 @@ enum sme_result {
  * The version of the archive, as one number like SME_MOVE_VERSION. An archive has such a function for its own version
  * and for each before it whose hosts it serves, and none for a later one.
  */
-uint32_t sme_version_0_5(void);
+uint32_t sme_version_0_6(void);
 
 /*
  * Executes one instruction word.
@@ -310,6 +319,8 @@ typedef struct sme_settings {
     bool streaming;
     bool za_on;
     uint64_t memory_address;
+    /* whether the stack check is off; an initialiser that does not name this, as of an earlier version, leaves it on */
+    bool stack_check_off;
 } sme_settings;
 
 /* The buffers of one call. An empty memory may be (NULL, 0). */
@@ -338,7 +349,7 @@ typedef struct sme_held {
 /* The version of the archive that the host is linked with. */
 static inline uint32_t sme_version(void)
 {
-    return sme_version_0_5();
+    return sme_version_0_6();
 }
 
 /* Whether an archive of that version is no older than this header. One that a host is linked with always is. */
@@ -357,12 +368,12 @@ static inline bool sme_version_serves(uint32_t archive)
 __attribute__((retain))
 #endif
 #endif
-__attribute__((used)) static uint32_t (*const sme_version_needed)(void) = sme_version_0_5;
+__attribute__((used)) static uint32_t (*const sme_version_needed)(void) = sme_version_0_6;
 #endif
 
 /*
- * Settings of this vector length and level, with both switches off and memory at address 0. They are not
- * checked here: sme_settings_check does, and so does execution.
+ * Settings of this vector length and level, with streaming and the array off, memory at address 0 and the stack check
+ * on. They are not checked here: sme_settings_check does, and so does execution.
  */
 static inline sme_settings sme_settings_new(uint64_t vector_bytes, uint64_t level)
 {
@@ -372,6 +383,7 @@ static inline sme_settings sme_settings_new(uint64_t vector_bytes, uint64_t leve
     settings.streaming = false;
     settings.za_on = false;
     settings.memory_address = 0;
+    settings.stack_check_off = false;
     return settings;
 }
 
@@ -383,6 +395,7 @@ static inline void sme_settings_give(sme_settings settings, uint64_t given[SME_S
     given[SME_SETTING_STREAMING] = settings.streaming;
     given[SME_SETTING_ZA_ON] = settings.za_on;
     given[SME_SETTING_MEMORY_ADDRESS] = settings.memory_address;
+    given[SME_SETTING_STACK_CHECK_OFF] = settings.stack_check_off;
 }
 
 /* The same settings with one changed. */
@@ -401,6 +414,13 @@ static inline sme_settings sme_settings_with_za(sme_settings settings, bool on)
 static inline sme_settings sme_settings_with_memory_address(sme_settings settings, uint64_t address)
 {
     settings.memory_address = address;
+    return settings;
+}
+
+/* With the check off, a stack pointer that is no multiple of 16 is a base like any other. */
+static inline sme_settings sme_settings_with_stack_check(sme_settings settings, bool on)
+{
+    settings.stack_check_off = !on;
     return settings;
 }
 

@@ -16,6 +16,7 @@ compare=rust/target/release/compare
 for mistake in TileAsBlock SliceModuloVectorLength BaseThirtyOneAsZero OffsetThirtyOneAsStackPointer \
     PredicateBitPerElement StoreBeforeFault IndexAddTrapsAt32Bits InactiveZeroed FourByStrideOfTwo \
     BitNineIgnored LoadKeepsInactive LoadKeepsTrailing OffsetNotScaled FaultAtElement FirstByteChecked BigEndian \
-    LongMemoryRefused FarBytesOutside MemoryLengthIn16Bits MemoryOffsetIn16Bits; do
+    LongMemoryRefused FarBytesOutside MemoryLengthIn16Bits MemoryOffsetIn16Bits StackSwitchIgnored \
+    StackSwitchInverted StackSwitchForStoresOnly; do
     "$compare" "$@" --mistake "$mistake" | tail -1
 done

@@ -1,7 +1,9 @@
 #!/usr/bin/env bash
 # Headers and archives of different versions. A host of the last version before settings became an array (0.4, whose header
 # is tests/c/old/0.4/sme_move.h) compiles with the header of today and runs; its object files link only where nothing that
-# they call has changed; and a host of a later header does not link with the archive of today.
+# they call has changed. Object files made with the header of a version since then (0.5) go on linking and run, with the
+# settings that came later as new settings have them, and so does source of that version. A host of a later header does
+# not link with the archive of today.
 # Build first: rt staticlib sme_move
 set -euo pipefail
 export LC_ALL=C
@@ -46,10 +48,15 @@ for symbol in sme_execute sme_check_settings sme_lengths; do
     must_not_link tests/c/old/execute.c tests/c/old/0.4 old-object-execute "$symbol"
 done
 
+for source in words execute array; do
+    must_run "tests/c/old/$source.c" tests/c/old/0.5 "object-of-0.5-$source"
+done
+must_run tests/c/old/array.c include source-of-0.5-array
+
 # The header of a later version that adds a setting or a result, in hosts that make settings and in those that do not.
-sed 's/sme_version_0_5/sme_version_0_6/' include/sme_move.h >"$out/later/sme_move.h"
+sed 's/sme_version_0_6/sme_version_0_7/' include/sme_move.h >"$out/later/sme_move.h"
 for source in words execute; do
-    must_not_link "tests/c/old/$source.c" "$out/later" "later-header-$source" sme_version_0_6
+    must_not_link "tests/c/old/$source.c" "$out/later" "later-header-$source" sme_version_0_7
 done
 
 # A program that only wants the header's names needs no archive.

@@ -67,7 +67,7 @@ static void no_active_tests(uint64_t b, const access *how)
     expect_done(&own, how, how->word | ON_STACK, 0);
 }
 
-/* Answers 3 to 6; one active element is enough for 6. */
+/* Answers 3 to 6; one active element is enough for 6, and also of settings whose stack check is switched on again. */
 static void refused_tests(uint64_t b, const access *how)
 {
     machine own = machine_at(b, b, 0x1000);
@@ -82,7 +82,21 @@ static void refused_tests(uint64_t b, const access *how)
     own = machine_at(b, b, 0);
     set_x(&own, 31, 0x1008);
     set_active(&own, 0, how->m, b);
+    own.settings = sme_settings_with_stack_check(sme_settings_with_stack_check(own.settings, false), true);
     expect_refused(&own, how->word | ON_STACK, SME_STACK_MISALIGNED, 0);
+}
+
+/* With the stack check off a misaligned stack pointer is a base like any other: done, or 7 with the address. */
+static void unchecked_tests(uint64_t b, const access *how)
+{
+    machine own = machine_at(b, 8 + b, 0);
+    own.settings = sme_settings_with_stack_check(own.settings, false);
+    set_x(&own, 31, 0x1008);
+    expect_done(&own, how, how->word | ON_STACK, 8);
+    own = machine_at(b, b, 0);
+    own.settings = sme_settings_with_stack_check(own.settings, false);
+    set_x(&own, 31, 0x2001);
+    expect_refused(&own, how->word | ON_STACK, SME_OUTSIDE_MEMORY, 0x2001);
 }
 
 /* Answer 7 at the end of memory: it ends after i bytes of the last element, and so carries the address of byte i. */
@@ -135,6 +149,7 @@ void access_tests(void)
             done_tests(b, &how);
             no_active_tests(b, &how);
             refused_tests(b, &how);
+            unchecked_tests(b, &how);
             end_tests(b, &how);
             wrap_tests(b, &how);
         }

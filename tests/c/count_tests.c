@@ -9,13 +9,19 @@
 
 #include <string.h>
 
-enum { MOST = 8, B = 32 };
+enum { MOST = 8, B = 32, FIRST = 0x1001 };
 
-/* A load of memory's first bytes to row 0 of the array, by registers 0 (the base) and 12 (the row). */
-static const uint32_t load = 0xE01F0000;
+/*
+ * A load of memory's first bytes to row 0 of the array, by register 12 (the row) and register 0 or the stack pointer (the
+ * base), which is no multiple of 16.
+ */
+static const uint32_t load = 0xE01F0000, load_by_stack = 0xE01F03E0;
 
-/* The answer of the load with so many numbers of these settings: a switch that is missing is off, and memory is at 0. */
-static uint32_t answer_with(size_t count)
+/*
+ * The answer of a load with so many numbers of these settings. Where they are missing streaming and the array are off,
+ * memory is at 0 and the stack check is on; the last number switches it off.
+ */
+static uint32_t answer_with(uint32_t word, size_t count)
 {
     switch (count) {
     case 2:
@@ -23,18 +29,20 @@ static uint32_t answer_with(size_t count)
     case 3:
         return SME_ZA_OFF;
     case 4:
-        return SME_OUTSIDE_MEMORY;
+        return word == load ? SME_OUTSIDE_MEMORY : SME_STACK_MISALIGNED;
     case 5:
+        return word == load ? SME_DONE : SME_STACK_MISALIGNED;
+    case 6:
         return SME_DONE;
     default:
         return SME_BAD_SETTINGS;
     }
 }
 
-/* So many numbers, read only, the switches being on by any number but 0. */
+/* So many numbers, read only: streaming and the array are on, and the stack check is off, each by any number but 0. */
 static guarded given_new(size_t count)
 {
-    static const uint64_t numbers[MOST] = {B, 1, UINT64_MAX, UINT64_C(1) << 32, 0x1000};
+    static const uint64_t numbers[MOST] = {B, 1, UINT64_MAX, UINT64_C(1) << 32, FIRST, UINT64_C(1) << 40};
     guarded given = guarded_new(count * sizeof numbers[0], 3);
     memcpy(given.bytes, numbers, given.length);
     guarded_read_only(&given);
@@ -46,22 +54,23 @@ static const uint64_t *numbers_of(const guarded *array)
     return array->length == 0 ? NULL : (const uint64_t *)(const void *)array->bytes;
 }
 
-/* Executes with so many settings and so many places for results. */
-static void execute_with(size_t count, size_t places)
+/* Executes a load with so many settings and so many places for results. */
+static void execute_with(uint32_t word, size_t count, size_t places)
 {
     guarded given = given_new(count), results = guarded_new(places * sizeof(uint64_t), 60);
     uint8_t wanted[MOST * sizeof(uint64_t)];
     memcpy(wanted, results.bytes, results.length);
     machine own = machine_new(B, 64);
-    set_x(&own, 0, 0x1000);
+    set_x(&own, 0, FIRST);
+    set_x(&own, 31, FIRST);
     set_x(&own, 12, 0);
     const sme_buffers lent = lend(&own);
     uint64_t *written = places == 0 ? NULL : (uint64_t *)(void *)results.bytes;
     uint32_t answer = sme_execute_word(numbers_of(&given), count, lent.x, lent.x_count, lent.z, lent.z_bytes, lent.p,
                                        lent.p_bytes, lent.za, lent.za_bytes, lent.memory, lent.memory_bytes, written,
-                                       places, load);
-    CHECK_EQUAL(answer, answer_with(count));
-    const uint64_t address = answer == SME_OUTSIDE_MEMORY ? 0x1000 : 0;
+                                       places, word);
+    CHECK_EQUAL(answer, answer_with(word, count));
+    const uint64_t address = answer == SME_OUTSIDE_MEMORY ? FIRST : 0;
     if (places > 0) {
         memcpy(wanted, &address, sizeof address);
     }
@@ -79,7 +88,7 @@ static void execute_with(size_t count, size_t places)
 static void check_with(size_t count)
 {
     guarded given = given_new(count);
-    const uint32_t wanted = count >= 2 && count <= 5 ? SME_DONE : SME_BAD_SETTINGS;
+    const uint32_t wanted = count >= 2 && count <= 6 ? SME_DONE : SME_BAD_SETTINGS;
     uint64_t four[4] = {1, 2, 3, 4};
     CHECK_EQUAL(sme_check(numbers_of(&given), count), wanted);
     CHECK_EQUAL(sme_measure(numbers_of(&given), count, four), wanted);
@@ -101,7 +110,8 @@ void count_tests(void)
     for (size_t count = 0; count <= MOST; count++) {
         check_with(count);
         for (size_t places = 0; places <= MOST; places++) {
-            execute_with(count, places);
+            execute_with(load, count, places);
+            execute_with(load_by_stack, count, places);
         }
     }
 }

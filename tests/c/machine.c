@@ -93,12 +93,12 @@ void expect(machine *own, uint32_t word, uint32_t wanted, uint64_t wanted_addres
 
 /*
  * Executes by the wrapper that takes settings or, in the run of the tests in which buffers touch the page behind them, by
- * the one of before version 0.5.
+ * the one of before version 0.5, which cannot switch the stack check off.
  */
 static uint32_t execute(const machine *own, sme_buffers lent, uint32_t word, uint64_t *address)
 {
     const sme_settings *settings = &own->settings;
-    if (guarded_touch_front) {
+    if (guarded_touch_front || settings->stack_check_off) {
         return sme_settings_execute(*settings, word, lent, address);
     }
     return sme_execute(settings->vector_bytes, settings->level, settings->streaming, settings->za_on,

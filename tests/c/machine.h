@@ -19,7 +19,7 @@ typedef struct lengths {
 
 lengths right_lengths(uint64_t vector_bytes, size_t memory_bytes);
 
-/* Level 3, both switches on, every predicate bit set, memory at address 1000 hex. */
+/* Level 3, streaming, the array and the stack check on, every predicate bit set, memory at address 1000 hex. */
 machine machine_with(uint64_t vector_bytes, lengths bytes);
 
 machine machine_new(uint64_t vector_bytes, size_t memory_bytes);

@@ -19,11 +19,11 @@ static void check_one(uint64_t vector_bytes, uint64_t level)
     uint32_t answer = sme_check_settings(vector_bytes, level);
     CHECK_EQUAL(answer, allowed_length(vector_bytes) && level <= 3 ? SME_DONE : SME_BAD_SETTINGS);
     CHECK_EQUAL(sme_settings_check(sme_settings_new(vector_bytes, level)), answer);
-    sme_settings made = sme_settings_with_za(sme_settings_new(99, 99), true);
+    sme_settings made = sme_settings_with_stack_check(sme_settings_with_za(sme_settings_new(99, 99), true), false);
     CHECK_EQUAL(sme_settings_make(vector_bytes, level, &made), answer);
     CHECK_EQUAL(made.vector_bytes, answer == SME_DONE ? vector_bytes : 16);
     CHECK_EQUAL(made.level, answer == SME_DONE ? level : 0);
-    CHECK(!made.streaming && !made.za_on && made.memory_address == 0);
+    CHECK(!made.streaming && !made.za_on && made.memory_address == 0 && !made.stack_check_off);
     seen[CHECK_SETTINGS][answer]++;
 }
 

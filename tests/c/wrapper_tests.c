@@ -14,6 +14,7 @@ static void expect_settings(sme_settings found, sme_settings wanted)
     CHECK_EQUAL(found.streaming, wanted.streaming);
     CHECK_EQUAL(found.za_on, wanted.za_on);
     CHECK_EQUAL(found.memory_address, wanted.memory_address);
+    CHECK_EQUAL(found.stack_check_off, wanted.stack_check_off);
 }
 
 static const uint64_t numbers[] = {0, 1, 2, 3, 77, 128, UINT64_C(1) << 32, UINT64_MAX};
@@ -26,7 +27,7 @@ static void new_tests(void)
     for (size_t i = 0; i < NUMBERS; i++) {
         for (size_t j = 0; j < NUMBERS; j++) {
             const sme_settings wanted = {.vector_bytes = numbers[i], .level = numbers[j], .streaming = false,
-                                         .za_on = false, .memory_address = 0};
+                                         .za_on = false, .memory_address = 0, .stack_check_off = false};
             expect_settings(sme_settings_new(numbers[i], numbers[j]), wanted);
         }
     }
@@ -42,6 +43,9 @@ static void with_one(const sme_settings from)
         wanted = from;
         wanted.za_on = on == 1;
         expect_settings(sme_settings_with_za(from, on == 1), wanted);
+        wanted = from;
+        wanted.stack_check_off = on == 0;
+        expect_settings(sme_settings_with_stack_check(from, on == 1), wanted);
     }
     for (size_t i = 0; i < NUMBERS; i++) {
         sme_settings wanted = from;
@@ -53,21 +57,25 @@ static void with_one(const sme_settings from)
 /* From both states of each switch, with no other item as sme_settings_new makes it. */
 static void with_tests(void)
 {
-    for (int switches = 0; switches < 4; switches++) {
+    for (int switches = 0; switches < 8; switches++) {
         with_one((sme_settings){.vector_bytes = 64, .level = 2, .streaming = switches % 2 == 1,
-                                .za_on = switches / 2 == 1, .memory_address = UINT64_C(0xFEDCBA9876543210)});
+                                .za_on = switches / 2 % 2 == 1, .memory_address = UINT64_C(0xFEDCBA9876543210),
+                                .stack_check_off = switches / 4 == 1});
         with_one((sme_settings){.vector_bytes = UINT64_MAX, .level = 9, .streaming = switches % 2 == 1,
-                                .za_on = switches / 2 == 1, .memory_address = 1});
+                                .za_on = switches / 2 % 2 == 1, .memory_address = 1,
+                                .stack_check_off = switches / 4 == 1});
     }
 }
 
 /* Each setting in its place. */
 static void give_tests(void)
 {
-    for (int switches = 0; switches < 4; switches++) {
+    for (int switches = 0; switches < 8; switches++) {
         const sme_settings settings = {.vector_bytes = 64, .level = 2, .streaming = switches % 2 == 1,
-                                       .za_on = switches / 2 == 1, .memory_address = UINT64_C(0xFEDCBA9876543210)};
-        const uint64_t wanted[] = {64, 2, (uint64_t)switches % 2, (uint64_t)switches / 2, UINT64_C(0xFEDCBA9876543210)};
+                                       .za_on = switches / 2 % 2 == 1, .memory_address = UINT64_C(0xFEDCBA9876543210),
+                                       .stack_check_off = switches / 4 == 1};
+        const uint64_t wanted[] = {64, 2, (uint64_t)switches % 2, (uint64_t)switches / 2 % 2,
+                                   UINT64_C(0xFEDCBA9876543210), (uint64_t)switches / 4};
         uint64_t given[SME_SETTING_COUNT];
         CHECK_EQUAL(sizeof given, sizeof wanted);
         sme_settings_give(settings, given);

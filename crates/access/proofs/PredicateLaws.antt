@@ -10,10 +10,10 @@ use native.Mathlib.Numerals.{add-one}
 use native.Mathlib.Decide.{ℕ-discrete, decLe}
 use native.Mathlib.Omega.{arith}
 use lib.Bits.{bitAnd, and-zero-l, and-shr, and-mod}
-use lib.Dec.{eqb, ltb}
+use lib.Dec.{eqb}
 use lib.ListN.{length, getD}
-use borrow.Author.Tests.{eqb-true, eq-eqb, ne-eqb, ltb-true, ltb-false, not-false}
-use Rattle.general.specs.Least.{least, isSome}
+use borrow.Author.Tests.{eqb-true, eq-eqb, ne-eqb, not-false}
+use Rattle.general.specs.Least.{least}
 use Rattle.general.proofs.LeastLaws.{least-never, least-none, least-found}
 use Rattle.tiles.specs.Element.{bytesOf}
 use Rattle.tiles.specs.declared.element.ElementSize.{ElementSize}
@@ -29,14 +29,6 @@ module _ (f : ℕ → Bool) (n r : ℕ) (h : First f 0 n r) where
 
   pub first-none : n ≤ r → least f n ≡ none
   first-none w = least-never f n (λ k v. h .passed k (omega arith) (omega arith) v)
-
-  -- so code tells whether there is one
-  pub first-is-some : ltb r n ≡ isSome (least f n)
-  first-is-some = go (ltb r n) refl
-    where
-      go : (b : Bool) → ltb r n ≡ b → ltb r n ≡ isSome (least f n)
-      go true e = e ∙ ap isSome (sym (first-some (ltb-true r n e)))
-      go false e = e ∙ ap isSome (sym (first-none (ltb-false r n e)))
 
 -- a test that agrees with another
 pub first-agree : (f g : ℕ → Bool) (from n r : ℕ) → ((k : ℕ) → k < n → f k ≡ g k) → First f from n r → First g from n r

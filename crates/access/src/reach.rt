@@ -40,10 +40,18 @@ pub struct Prepared {
     pub reach: Reach,
 }
 
-// Whether the base is the stack pointer and misaligned, and an element is active.
-fn is_stack_bad(rn: u8, base: u64, p: &[u8], pbase: usize, size: ElementSize, n: usize) -> bool
+// Whether the base is the stack pointer and misaligned, an element is active, and the check is on.
+fn is_stack_bad(
+    check: bool,
+    rn: u8,
+    base: u64,
+    p: &[u8],
+    pbase: usize,
+    size: ElementSize,
+    n: usize,
+) -> bool
     requires { ⌜ (pbase * 8 + n ≤ 8 * length (now p)) × (n ≤ maxVectorBytes) ⌝ }
-    ensures { λ r. ⌜ r ≡ eqb rn 31 && isSome (least (active (now (p .entry)) pbase (bytesOf size)) n) && not (eqb (base % 16) 0) ⌝ }
+    ensures { λ r. ⌜ r ≡ eqb rn 31 && isSome (least (active (now (p .entry)) pbase (bytesOf size)) n) && not (eqb (base % 16) 0) && check ⌝ }
 {
     if rn != 31 {
         return false;
@@ -51,7 +59,11 @@ fn is_stack_bad(rn: u8, base: u64, p: &[u8], pbase: usize, size: ElementSize, n:
     if base % 16 == 0 {
         return false;
     }
-    first_active(p, pbase, size, 0, n) < n
+    if n <= first_active(p, pbase, size, 0, n) {
+        return false;
+    }
+    // The switch last: tested before, it costs loads and stores by other bases some time.
+    check
 }
 
 // The first byte of an active element that a window leaves out, n where there is none.
@@ -83,7 +95,7 @@ fn find_reach(
     let size = slice.size;
     let n = settings.vector_bytes as usize;
     let pbase = predicate_start(pg, settings);
-    if is_stack_bad(rn, x[rn as usize], p, pbase, size, n) {
+    if is_stack_bad(settings.stack_check, rn, x[rn as usize], p, pbase, size, n) {
         return Reach::Refused(Refusal::StackMisaligned);
     }
     let start = first_address(x, size, rn, rm);

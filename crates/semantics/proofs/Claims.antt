@@ -2,8 +2,11 @@
 -- Assumes nothing.
 use Prim.Native.Nat.{ℕ, _+_}
 use mathlib.Core.Path.{_≡_, refl, sym, ap, _∙_, subst}
+use mathlib.Core.Bool.{Bool, true, false, true≢false}
 use mathlib.Core.List.{List, [], _∷_, _++_}
 use native.Mathlib.Omega.{arith}
+use Rattle.general.specs.Determined.{IsOneOf}
+use Rattle.settings.specs.Settings.{withStackCheck}
 use Rattle.settings.specs.declared.Settings.{Settings}
 use Rattle.semantics.specs.declared.answer.Refusal.{Refusal}
 use Rattle.semantics.specs.declared.answer.Executed.{Executed}
@@ -11,7 +14,7 @@ use Rattle.semantics.specs.declared.answer.Executed.the-variants.{Done, 
 use Rattle.semantics.specs.State.{State, publicOf}
 use Rattle.semantics.specs.Execute.{Outcome, ifDone, executeOf}
 use Rattle.semantics.specs.Run.{Ran, oneMore, runOf}
-use Rattle.semantics.specs.Claims.{AnswersAgree, ExecutingDetermines, Keeps, ExecutionKeeps, OperationsMean, OperationsSettle, RunGoesOn}
+use Rattle.semantics.specs.Claims.{AnswersAgree, ExecutingDetermines, Keeps, ExecutionKeeps, OperationsMean, OperationsSettle, StackCheckSwitched, RunGoesOn}
 use Rattle.semantics.specs.Promise.{Executes}
 use Rattle.semantics.specs.Answer.{executedNumber}
 use Rattle.general.proofs.DeterminedLaws.{equal-determines}
@@ -24,6 +27,7 @@ use Rattle.encoding.proofs.RangeLaws.{decoded-in-range}
 use Rattle.semantics.proofs.ExecuteLaws.{refused-not-done, Ends, does, stays, ends, does-operation, does-answer}
 use Rattle.semantics.proofs.ExecuteLaws as laws
 use Rattle.semantics.proofs.EffectLaws.{effect-keeps}
+use Rattle.semantics.proofs.StackLaws.{Switched, alike, apart, answer-switched, outcome-same}
 
 pub answers-agree : AnswersAgree
 answers-agree s w u = laws.answers-agree s u w
@@ -61,6 +65,26 @@ operations-settle s w t t′ o d k m = means-settle s t t′ (executeOf s w t .s
 
 pub answers-exactly : AnswersExactly
 answers-exactly s w t = (given-exactly s w t, address-told s w t, refusal-keeps s w t)
+
+-- ---- the switch of the stack check
+
+-- with the check off no call gets 6
+unchecked : (s : Settings) (w : ℕ) (t : State) → s .«stack_check» ≡ false → executedNumber (executeOf s w t .answer) ≡ 6 → ⊥
+unchecked s w t e n = true≢false (sym (given-exactly s w t .reason 5 (omega arith) n .0 .checked) ∙ e)
+
+pub stack-check-switched : StackCheckSwitched
+stack-check-switched s w t = record { off = unchecked s w t; same = same (answer-switched s w t); ordinary = ordinary (answer-switched s w t) }
+  where
+    a : Bool → Executed
+    a b = executeOf (withStackCheck s b) w t .answer
+
+    same : Switched (a false) (a true) → (executedNumber (a true) ≡ 6 → ⊥) → executeOf (withStackCheck s false) w t ≡ executeOf (withStackCheck s true) w t
+    same (alike e) h = outcome-same s w t e
+    same (apart e o) h = absurd (h (ap executedNumber e))
+
+    ordinary : Switched (a false) (a true) → executedNumber (a true) ≡ 6 → IsOneOf (0 ∷ 7 ∷ []) (executedNumber (a false))
+    ordinary (alike e) h = absurd (unchecked (withStackCheck s false) w t refl (ap executedNumber e ∙ h))
+    ordinary (apart e o) h = o
 
 -- ---- runs, word by word
 

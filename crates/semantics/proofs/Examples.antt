@@ -32,7 +32,7 @@ examples-hold =
       example6 = record { moves = refl; later = refl };
       example7 = record { moves = refl; longer = refl };
       example8 = record { moves = refl; odd = refl; longer = refl };
-      example9 = record { active = refl; none = refl; aligned = refl };
+      example9 = record { active = refl; none = refl; on = refl; off = refl; offElsewhere = refl; offNone = refl; aligned = refl };
       example10 = record { all = refl; some = refl; later = refl };
       exampleStore = record { inside = refl; outside = refl };
       exampleSlices = record { column = refl; taken = refl; row = refl };
@@ -57,5 +57,6 @@ examples-hold =
             load = record { column = refl; bytes = refl; pairs = refl; none = refl; aligned = refl };
             stores = record { column = refl; wide = refl };
             refused = record { low = refl; streaming = refl; za = refl; stack = refl; outside = refl };
+            unchecked = record { loads = refl; elsewhere = refl; on = refl; none = refl; each = refl };
           };
     }

@@ -3,5 +3,6 @@ pub mod ExecuteLaws
 pub mod EffectLaws
 pub mod OperationLaws
 pub mod ReasonLaws
+pub mod StackLaws
 pub mod SettleLaws
 pub mod Claims

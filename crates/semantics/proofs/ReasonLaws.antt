@@ -33,7 +33,7 @@ use Rattle.encoding.specs.declared.operation.Operation.the-variants.{MovaToTile
 use Rattle.encoding.specs.declared.operation.Decoded.{Decoded}
 use Rattle.encoding.specs.declared.operation.Decoded.the-variants.{Done, BadLevel, Undecodable}
 use Rattle.semantics.specs.Access.{addressOf, inMemory}
-use Rattle.semantics.specs.Execute.{validLengths, accessActive, faulting, faultOf, executeOf}
+use Rattle.semantics.specs.Execute.{validLengths, accessActive, faulting, faultOf, misaligned, executeOf}
 use Rattle.semantics.specs.Operations.{elementsIn, Active, addressIn}
 use Rattle.semantics.specs.Lines.{AnswerLine, lineWith, firstLine, isOperation, accessOf, stackIsBad, faultIn, addressAmong, answerInNumbers}
 use Rattle.semantics.specs.Reasons.{ReasonAt, SettingsBad, LengthsBad, NotInMemory, StackBad, ByteOutside, reasons, given, GivenExactly, FirstOutside, AddressTold, RefusalKeeps}
@@ -272,7 +272,8 @@ module _ (s : Settings) (w : ℕ) (t : State) (valid : isVectorLength (s .«vect
       go : (a : Option SliceAccess) → found ≡ a → stackIsBad s (publicOf t) a ≡ true → StackBad s w t
       go none q e = absurd (true≢false (sym e))
       go (some o) q e =
-          let h = and-parts (eqb (o .rn) 31 && isSome (least (accessActive s (t .x) (t .p) (length (t .memory)) o) (s .«vector_bytes»))) _ e in
+          let c = and-parts (misaligned s (t .x) (t .p) (length (t .memory)) o) _ e in
+          let h = and-parts (eqb (o .rn) 31 && isSome (least (accessActive s (t .x) (t .p) (length (t .memory)) o) (s .«vector_bytes»))) _ (c .0) in
           let b = and-parts (eqb (o .rn) 31) _ (h .0) in
           let k = is-some _ (b .1) in
           let l = least-some (accessActive s (t .x) (t .p) (length (t .memory)) o) (s .«vector_bytes») (k .0) (k .1) in
@@ -285,6 +286,7 @@ module _ (s : Settings) (w : ℕ) (t : State) (valid : isVectorLength (s .«vect
             below = element-of o (k .0) (l .0);
             active = active-of o (k .0) (l .1);
             misaligned = λ z. clash _ (eq-eqb (getD (t .x) (o .rn) 0 % 16) 0 (ap (λ (r : ℕ). getD (t .x) r 0 % 16) is31 ∙ z)) (not-true _ (h .1));
+            checked = c .1;
           }
 
   bad-stack : StackBad s w t → stackIsBad s (publicOf t) found ≡ true
@@ -292,10 +294,12 @@ module _ (s : Settings) (w : ℕ) (t : State) (valid : isVectorLength (s .«vect
       let o = h .access in
       ap (stackIsBad s (publicOf t)) (is-access (decodeOf w (s .level)) o (h .is)) ∙
       and-both _ _
+      (and-both _ _
       (and-both _ _ (eq-eqb (o .rn) 31 (h .base))
       (some-least (accessActive s (t .x) (t .p) (length (t .memory)) o) (s .«vector_bytes») (h .element * m o + 0) (byte-below o (h .element) 0 (h .below) (some-bytes o))
       (active-element (t .p) (o .pg * (strideOf s / 8)) (m o) (h .element) 0 (some-bytes o) ∙ eq-eqb _ 1 (h .active))))
-      (false-not _ (refute _ (λ y. h .misaligned (ap (λ (r : ℕ). getD (t .x) r 0 % 16) (sym (h .base)) ∙ eqb-true _ 0 y))))
+      (false-not _ (refute _ (λ y. h .misaligned (ap (λ (r : ℕ). getD (t .x) r 0 % 16) (sym (h .base)) ∙ eqb-true _ 0 y)))))
+      (h .checked)
     where
       some-bytes : (o : SliceAccess) → 0 < m o
       some-bytes o = whole-elements (o .slice .size) (s .«vector_bytes») valid .some

@@ -1,4 +1,4 @@
--- Worked examples of the words that request 2 of 02 adds, in the manner of 01 §7. To believe: the answers and the buffers afterwards.
+-- Worked examples of the words that request 2 of 02 adds, and of the stack check that request 4 switches, in the manner of 01 §7. To believe: the answers and the buffers afterwards.
 -- Assumes nothing.
 use Prim.Native.Nat.{ℕ, _+_, _*_, _-_, _/_, _%_, _^_}
 use mathlib.Core.Path.{_≡_}
@@ -8,7 +8,7 @@ use lib.Dec.{eqb, ltb}
 use lib.ListN.{set, take, drop, replicate}
 use Rattle.semantics.specs.State.{stateOf}
 use Rattle.semantics.specs.Execute.{executeOf}
-use Rattle.semantics.specs.ExampleBuffers.{vectorIn, zAt, zaAt, memoryOf, bytesFrom, settingsAt, xWith, ones, predicate0, Seen, seen, executedIn, executed, executedUnder, executedAt, vectors, doneWith, refusedWith}
+use Rattle.semantics.specs.ExampleBuffers.{vectorIn, zAt, zaAt, memoryOf, bytesFrom, settingsAt, xWith, ones, predicate0, Seen, seen, executedIn, executedUnchecked, executed, executedUnder, executedAt, vectors, doneWith, refusedWith}
 
 -- ZA at B bytes with vector v replaced
 abbrev withVector : ℕ → ℕ → List ℕ → List ℕ
@@ -159,6 +159,20 @@ pub record ExampleAccessRefused : Type 0 where
   -- and of 1010 hex
   pub outside : map (λ (w : ℕ). executed 16 w 8 (xWith 31 0x1010) (predicate0 16 (1 ∷ 0 ∷ []))) accessWords ≡ replicate 9 (refusedWith 16 8 7 0x1010)
 
+-- The stack check off (request 4). E01F03E0 is example 9 as a load: bytes, row W12, the stack pointer 1008 hex, which is a base like any other
+abbrev unchecked : ℕ → List ℕ → Seen
+unchecked address p = executedUnchecked 16 address 64 0xE01F03E0 (set (xWith 12 0) 31 0x1008) p
+
+pub record ExampleUnchecked : Type 0 where
+  -- all active: with memory from 1000 hex on done, with memory elsewhere 7; both 6 with the stack check on
+  pub loads : unchecked 0x1000 (ones 16) ≡ doneWith (zAt 16) (withVector 16 0 (take 16 (drop 8 (memoryOf 64)))) (memoryOf 64)
+  pub elsewhere : unchecked 0x2000 (ones 16) ≡ refusedWith 16 64 7 0x1008
+  pub on : map (λ (a : ℕ). executedIn 16 a 64 0xE01F03E0 (set (xWith 12 0) 31 0x1008) (ones 16)) (0x1000 ∷ 0x2000 ∷ []) ≡ replicate 2 (refusedWith 16 64 6 0)
+  -- none active: the slice is zero, as with the stack check on
+  pub none : unchecked 0x2000 (predicate0 16 (0 ∷ 0 ∷ [])) ≡ doneWith (zAt 16) (withVector 16 0 (replicate 16 0)) (memoryOf 64)
+  -- the words above, memory at address 0
+  pub each : map (λ (w : ℕ). executedUnchecked 16 0 8 w (xWith 31 0x1008) (ones 16)) accessWords ≡ replicate 9 (refusedWith 16 8 7 0x1008)
+
 pub record AccessHold : Type 0 where
   pub end : ExampleEnd
   pub top : ExampleTop
@@ -169,3 +183,4 @@ pub record AccessHold : Type 0 where
   pub load : ExampleLoad
   pub stores : ExampleStores
   pub refused : ExampleAccessRefused
+  pub unchecked : ExampleUnchecked

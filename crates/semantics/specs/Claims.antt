@@ -2,11 +2,12 @@
 -- Assumes nothing.
 use Prim.Native.Nat.{ℕ, _+_, _<_}
 use mathlib.Core.Path.{_≡_}
-use mathlib.Core.Bool.{true}
+use mathlib.Core.Bool.{true, false}
 use mathlib.Core.List.{List, [], _∷_, _++_}
 use lib.ListN.{length, getD}
 use Rattle.general.specs.Places.{Places}
-use Rattle.general.specs.Determined.{Determined, Met}
+use Rattle.general.specs.Determined.{Determined, Met, IsOneOf}
+use Rattle.settings.specs.Settings.{withStackCheck}
 use Rattle.settings.specs.declared.Settings.{Settings}
 use Rattle.encoding.specs.Codec.{decodeOf}
 use Rattle.encoding.specs.declared.operation.Operation.{Operation}
@@ -59,6 +60,16 @@ OperationsMean = (s : Settings) (w : ℕ) (t : State) (o : Operation) → IsDone
 abbrev pub OperationsSettle : Type 0
 OperationsSettle =
     (s : Settings) (w : ℕ) (t t′ : State) (o : Operation) → IsDone s w t o → Keeps t t′ → Means s t t′ o → t′ ≡ executeOf s w t .state
+
+-- The switch of the stack check (request 4). With it off no call gets 6. Settings that differ in it alone give the same answer and the same buffers, unless
+-- the one with it on gives 6; there the other is done, or gets 7.
+pub record StackCheckSwitches (s : Settings) (w : ℕ) (t : State) : Type 0 where
+  pub off : s .«stack_check» ≡ false → executedNumber (executeOf s w t .answer) ≡ 6 → ⊥
+  pub same : (executedNumber (executeOf (withStackCheck s true) w t .answer) ≡ 6 → ⊥) → executeOf (withStackCheck s false) w t ≡ executeOf (withStackCheck s true) w t
+  pub ordinary : executedNumber (executeOf (withStackCheck s true) w t .answer) ≡ 6 → IsOneOf (0 ∷ 7 ∷ []) (executedNumber (executeOf (withStackCheck s false) w t .answer))
+
+abbrev pub StackCheckSwitched : Type 0
+StackCheckSwitched = (s : Settings) (w : ℕ) (t : State) → StackCheckSwitches s w t
 
 -- i is none of the places that are written
 abbrev pub Untouched : Places → ℕ → Type 0

@@ -2,10 +2,10 @@
 -- To believe: the buffers, and that `Seen` has all that a host sees.
 -- Assumes nothing.
 use Prim.Native.Nat.{ℕ, zero, suc, _+_, _*_, _/_, _%_}
-use mathlib.Core.Bool.{Bool, true, not, cond}
+use mathlib.Core.Bool.{Bool, true, false, not, cond}
 use mathlib.Core.List.{List, [], _∷_, _++_}
 use lib.ListN.{set, take, drop, replicate}
-use Rattle.settings.specs.Settings.{settingsOf, withStreaming, withZa, withMemoryAddress}
+use Rattle.settings.specs.Settings.{settingsOf, withStreaming, withZa, withMemoryAddress, withStackCheck}
 use Rattle.settings.specs.declared.Settings.{Settings}
 use Rattle.semantics.specs.Answer.{executedNumber, executedAddress}
 use Rattle.semantics.specs.State.{State, stateOf}
@@ -25,7 +25,7 @@ bytesFrom i (suc n) = (i * 7 % 251 + 1) ∷ bytesFrom (suc i) n
 abbrev pub vectorIn : List ℕ → ℕ → ℕ → List ℕ
 vectorIn l B v = take B (drop (v * B) l)
 
--- settings with the two switches so, and of level 3 with both on
+-- settings with streaming and ZA so, and of level 3 with both on
 abbrev pub switched : Settings → Bool → Bool → Settings
 switched s streaming za = withZa (withStreaming s streaming) za
 
@@ -66,14 +66,17 @@ pub record Seen : Type 0 where
 abbrev pub seen : Outcome → Seen
 seen o = record { number = executedNumber (o .answer); address = executedAddress (o .answer); z = o .state .z; za = o .state .za; memory = o .state .memory }
 
--- a word executed at a vector length, with memory of n bytes at an address, and at address 0
+-- a word executed at a vector length, with memory of n bytes at an address; the same with the stack check off; at address 0
 abbrev pub executedIn : ℕ → ℕ → ℕ → ℕ → List ℕ → List ℕ → Seen
 executedIn B address n w x p = seen (executeOf (settingsAt B address) w (stateAt B n x p))
+
+abbrev pub executedUnchecked : ℕ → ℕ → ℕ → ℕ → List ℕ → List ℕ → Seen
+executedUnchecked B address n w x p = seen (executeOf (withStackCheck (settingsAt B address) false) w (stateAt B n x p))
 
 abbrev pub executed : ℕ → ℕ → ℕ → List ℕ → List ℕ → Seen
 executed B w n x p = executedIn B 0 n w x p
 
--- at 16 bytes under a level and the two switches, and with both on
+-- at 16 bytes under a level, with streaming and ZA so, and with both on
 abbrev pub executedUnder : ℕ → Bool → Bool → ℕ → Seen
 executedUnder level streaming za w =
     seen (executeOf (switched (settingsOf 16 level) streaming za) w (stateAt 16 8 (bytesFrom 50 32) (ones 16)))

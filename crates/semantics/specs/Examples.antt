@@ -14,7 +14,7 @@ use Rattle.settings.specs.Settings.{settingsOf}
 use Rattle.semantics.specs.State.{stateOf}
 use Rattle.semantics.specs.Execute.{executeOf}
 use Rattle.semantics.specs.Run.{Ran, runOf}
-use Rattle.semantics.specs.ExampleBuffers.{bytesFrom, switched, settingsAt, stateAt, seen, alternate, vectorIn, zAt, zaAt, memoryOf, xWith, ones, predicate0, Seen, executedIn, executed, executedUnder, executedAt, vectors, doneWith, refusedWith}
+use Rattle.semantics.specs.ExampleBuffers.{bytesFrom, switched, settingsAt, stateAt, seen, alternate, vectorIn, zAt, zaAt, memoryOf, xWith, ones, predicate0, Seen, executedIn, executedUnchecked, executed, executedUnder, executedAt, vectors, doneWith, refusedWith}
 use Rattle.semantics.specs.AddedExamples.{AddedHold}
 use Rattle.semantics.specs.AccessExamples.{AccessHold}
 use Rattle.semantics.specs.PlaceExamples.{ExamplePlaces}
@@ -75,11 +75,17 @@ pub record Example8 : Type 0 where
       doneWith (take 320 (zAt 32) ++ (vectorIn (zaAt 32) 32 11 ++ (vectorIn (zaAt 32) 32 27 ++ drop 384 (zAt 32))))
       (vectors 32 32 (λ v. cond (eqb (v % 16) 11) (replicate 32 0) (vectorIn (zaAt 32) 32 v))) (memoryOf 8)
 
--- E03F03E0, stack pointer 1008 hex, an active element: 6. None active: done, nothing written
+-- E03F03E0, stack pointer 1008 hex, an active element, the stack check on: 6. None active, the stack check on or off: done, nothing written. The
+-- stack check off (request 4), all active: with memory from 1000 hex on done, and stored at 1008 hex, with W12 = 5 row 5; with memory elsewhere 7, address 1008 hex
 pub record Example9 : Type 0 where
   -- whichever of the sixteen elements is the active one
   pub active : map (λ (e : ℕ). executed 16 0xE03F03E0 8 (xWith 31 0x1008) (predicate0 16 (2 ^ e % 256 ∷ 2 ^ e / 256 ∷ []))) (0 ∷ 1 ∷ 2 ∷ 3 ∷ 4 ∷ 5 ∷ 6 ∷ 7 ∷ 8 ∷ 9 ∷ 10 ∷ 11 ∷ 12 ∷ 13 ∷ 14 ∷ 15 ∷ []) ≡ replicate 16 (refusedWith 16 8 6 0)
   pub none : executed 16 0xE03F03E0 8 (xWith 31 0x1008) (predicate0 16 (0 ∷ 0 ∷ [])) ≡ doneWith (zAt 16) (zaAt 16) (memoryOf 8)
+  pub on : map (λ (a : ℕ). executedIn 16 a 64 0xE03F03E0 (set (xWith 12 5) 31 0x1008) (ones 16)) (0x1000 ∷ 0x2000 ∷ []) ≡ replicate 2 (refusedWith 16 64 6 0)
+  pub off : executedUnchecked 16 0x1000 64 0xE03F03E0 (set (xWith 12 5) 31 0x1008) (ones 16) ≡
+      doneWith (zAt 16) (zaAt 16) (take 8 (memoryOf 64) ++ (vectorIn (zaAt 16) 16 5 ++ drop 24 (memoryOf 64)))
+  pub offElsewhere : executedUnchecked 16 0x2000 64 0xE03F03E0 (set (xWith 12 5) 31 0x1008) (ones 16) ≡ refusedWith 16 64 7 0x1008
+  pub offNone : executedUnchecked 16 0x2000 64 0xE03F03E0 (xWith 31 0x1008) (predicate0 16 (0 ∷ 0 ∷ [])) ≡ doneWith (zAt 16) (zaAt 16) (memoryOf 64)
   -- beyond 01's sentence: the stack pointer 10 hex is the base and register 31 as an offset is zero, so bytes 16 to 31 are written
   pub aligned : executed 16 0xE03F03E0 64 (set (xWith 12 5) 31 16) (ones 16) ≡
       doneWith (zAt 16) (zaAt 16) (take 16 (memoryOf 64) ++ (vectorIn (zaAt 16) 16 5 ++ drop 32 (memoryOf 64)))
@@ -118,16 +124,16 @@ pub record ExampleSlices : Type 0 where
   pub row : executed 32 0xC082232B 8 (xWith 13 12) (replicate 64 0) ≡
       doneWith (take 352 (zAt 32) ++ (vectorIn (zaAt 32) 32 22 ++ drop 384 (zAt 32))) (take 704 (zaAt 32) ++ (replicate 32 0 ++ drop 736 (zaAt 32))) (memoryOf 8)
 
--- a word that is no instruction, with both switches off and P one byte too short, at a level
+-- a word that is no instruction, with streaming and ZA off and P one byte too short, at a level
 abbrev unsettled : ℕ → ℕ
 unsettled level = seen (executeOf (switched (settingsOf 16 level) false false) 0xC0000010 (stateOf (bytesFrom 50 32) (zAt 16) (drop 1 (ones 16)) (zaAt 16) (memoryOf 8))) .number
 
--- 12, and the other checks of settings: C0000000 at level 1 with both switches off gives 4, with ZA off 5; level 4 gives 1
+-- 12, and the other checks of settings: C0000000 at level 1 with streaming and ZA off gives 4, with ZA off 5; level 4 gives 1
 pub record Example12 : Type 0 where
   pub both : executedUnder 1 false false 0xC0000000 ≡ refusedWith 16 8 4 0
   pub za : executedUnder 1 true false 0xC0000000 ≡ refusedWith 16 8 5 0
   pub level : executedAt 4 0xC0000000 ≡ refusedWith 16 8 1 0
-  -- beyond 01's sentence: a word that is no instruction gives 3 with both switches off too
+  -- beyond 01's sentence: a word that is no instruction gives 3 with streaming and ZA off too
   pub word : executedUnder 1 false false 0xC0000010 ≡ refusedWith 16 8 3 0
   -- and with a buffer too short 2, with level 4 beside it 1
   pub order : map unsettled (1 ∷ 4 ∷ []) ≡ 2 ∷ 1 ∷ []

@@ -59,8 +59,12 @@ module _ (s : Settings) (x p : List ℕ) (lm : ℕ) where
   faultAnswer o (some k) = Refused (OutsideMemory (addressOf x o k))
 
   -- the stack pointer is the base, some element is active, and the stack pointer is no multiple of 16
+  abbrev pub misaligned : SliceAccess → Bool
+  misaligned o = eqb (o .rn) 31 && isSome (least (accessActive o) (s .«vector_bytes»)) && not (eqb (baseOf x (o .rn) % 16) 0)
+
+  -- and the stack check is on (request 4)
   abbrev pub stackBad : SliceAccess → Bool
-  stackBad o = eqb (o .rn) 31 && isSome (least (accessActive o) (s .«vector_bytes»)) && not (eqb (baseOf x (o .rn) % 16) 0)
+  stackBad o = misaligned o && s .«stack_check»
 
   unfoldable pub accessAnswer : SliceAccess → Executed
   accessAnswer o = guard (not (stackBad o)) StackMisaligned (faultAnswer o (faultOf o))

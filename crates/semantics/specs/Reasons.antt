@@ -5,7 +5,7 @@
 -- Assumes nothing.
 use Prim.Native.Nat.{ℕ, zero, suc, _+_, _*_, _/_, _%_, _^_, _<_, _≤_}
 use mathlib.Core.Path.{_≡_}
-use mathlib.Core.Bool.{false}
+use mathlib.Core.Bool.{true, false}
 use mathlib.Core.List.{List, [], _∷_}
 use mathlib.Core.Logic.{_⊎_}
 use lib.ListN.{length, getD}
@@ -51,7 +51,7 @@ module _ (s : Settings) (w : ℕ) (t : State) where
   abbrev pub DoesNotDecode : Type 0
   DoesNotDecode = (o : Operation) → decodeOf w (s .level) ≡ Done o → ⊥
 
-  -- 6: a load or store with Rn = 31, at least one active element, stack pointer not a multiple of 16
+  -- 6: the stack check on (request 4), a load or store with Rn = 31, at least one active element, stack pointer not a multiple of 16
   pub record StackBad : Type 0 where
     pub access : SliceAccess
     pub is : IsAccess access
@@ -60,6 +60,7 @@ module _ (s : Settings) (w : ℕ) (t : State) where
     pub below : element < elementsIn s (access .slice)
     pub active : Active s t (access .slice) (access .pg) element
     pub misaligned : getD (t .x) 31 0 % 16 ≡ 0 → ⊥
+    pub checked : s .«stack_check» ≡ true
 
   -- 7: a load or store with an active element of which a byte is not in memory
   pub record ByteOutside : Type 0 where

@@ -13,7 +13,7 @@ use Rattle.general.proofs.BoolLaws.{and-parts, by-test}
 use Rattle.general.proofs.DeterminedLaws.{equal-determines, one-of-test, other-number}
 use Rattle.settings.specs.Answer.{done, badSettings, checkedNumber}
 use Rattle.settings.specs.Settings.{isVectorLength, validSettings, checkOf, checkNumber, Checks, settingsOf, makeOf, Makes, lengthsOf, lengthNumbers, Measures}
-use Rattle.settings.specs.Lent.{isOn, noSettings, settingsIn}
+use Rattle.settings.specs.Lent.{isOff, isOn, noSettings, settingsIn}
 use Rattle.settings.specs.Claims.{five, FiveLengths, LengthsGoByLength, Items, Plain, ItemsChange, NoMachine, LentSettings, ChecksDetermine, MakesDetermine, MeasuresDetermine, SettingsDetermine}
 use Rattle.settings.specs.declared.Settings.{Settings}
 use Rattle.settings.specs.declared.Checked.{Checked}
@@ -58,8 +58,8 @@ pub lengths-go-by-length : LengthsGoByLength
 lengths-go-by-length s = record { stride = refl; lengths = refl }
 
 -- any settings, item by item
-items : {s : Settings} → Items s (s .«vector_bytes») (s .level) (s .streaming) (s .za) (s .«memory_address»)
-items = record { vectorBytes = refl; level = refl; streaming = refl; za = refl; memoryAddress = refl }
+items : {s : Settings} → Items s (s .«vector_bytes») (s .level) (s .streaming) (s .za) (s .«memory_address») (s .«stack_check»)
+items = record { vectorBytes = refl; level = refl; streaming = refl; za = refl; memoryAddress = refl; stackCheck = refl }
 
 pub items-change : ItemsChange
 items-change s =
@@ -67,12 +67,18 @@ items-change s =
       streaming = λ on. items;
       za = λ on. items;
       memoryAddress = λ a. items;
+      stackCheck = λ on. items;
     }
 
 -- a switch as a number and back
 switch : (b : Bool) → isOn (cond b 1 0) ≡ b
 switch true = refl
 switch false = refl
+
+-- that of the stack check, which is given by whether it is off
+unswitch : (b : Bool) → isOff (cond b 0 1) ≡ b
+unswitch true = refl
+unswitch false = refl
 
 -- no vector has 0 bytes
 no-machine : (s : Settings) → noSettings ≡ s → NoMachine s
@@ -84,12 +90,14 @@ off-is-0 n e = eqb-true n 0 (not-false _ e)
 
 pub lent-settings : LentSettings
 lent-settings = record {
-  whole = λ s. rw (switch (s .streaming), switch (s .za));
+  whole = λ s. rw (switch (s .streaming), switch (s .za), unswitch (s .«stack_check»));
   off = off-is-0;
+  on = λ n e. eqb-true n 0 e;
   firstTwo = λ B l. items;
   firstThree = λ B l a. items;
   firstFour = λ B l a b. items;
-  allFive = λ B l a b c. items;
+  firstFive = λ B l a b c. items;
+  allSix = λ B l a b c d. items;
   few = λ l h. no-machine (settingsIn l) (settings-few l h);
   many = λ l h. no-machine (settingsIn l) (settings-many l (omega (arith, h)) h);
 }
@@ -102,6 +110,7 @@ plain s B l e = record {
   streaming = ap (λ (s : Settings). s .streaming) e;
   za = ap (λ (s : Settings). s .za) e;
   memoryAddress = ap (λ (s : Settings). s .«memory_address») e;
+  stackCheck = ap (λ (s : Settings). s .«stack_check») e;
 }
 
 makes-determine : (B level : ℕ) → MakesDetermine B level

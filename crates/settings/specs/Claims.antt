@@ -8,8 +8,8 @@ use mathlib.Core.List.{List, [], _∷_}
 use lib.ListN.{length}
 use Rattle.general.specs.Determined.{Determined, Met, IsOneOf}
 use Rattle.settings.specs.Answer.{checkedNumber}
-use Rattle.settings.specs.Settings.{isVectorLength, checkNumber, Checks, Makes, withStreaming, withZa, withMemoryAddress, strideOf, lengthsOf, lengthNumbers, Measures}
-use Rattle.settings.specs.Lent.{isOn, settingsIn}
+use Rattle.settings.specs.Settings.{isVectorLength, checkNumber, Checks, Makes, withStreaming, withZa, withMemoryAddress, withStackCheck, strideOf, lengthsOf, lengthNumbers, Measures}
+use Rattle.settings.specs.Lent.{isOff, isOn, settingsIn}
 use Rattle.settings.specs.declared.Settings.{Settings}
 use Rattle.settings.specs.declared.Checked.{Checked}
 use Rattle.settings.specs.declared.Made.{Made}
@@ -31,46 +31,50 @@ abbrev pub LengthsGoByLength : Type 0
 LengthsGoByLength = (s : Settings) → GoesByLength s
 
 -- settings item by item
-pub record Items (s : Settings) (B l : ℕ) (on on′ : Bool) (a : ℕ) : Type 0 where
+pub record Items (s : Settings) (B l : ℕ) (on on′ : Bool) (a : ℕ) (on″ : Bool) : Type 0 where
   pub vectorBytes : s .«vector_bytes» ≡ B
   pub level : s .level ≡ l
   pub streaming : s .streaming ≡ on
   pub za : s .za ≡ on′
   pub memoryAddress : s .«memory_address» ≡ a
+  pub stackCheck : s .«stack_check» ≡ on″
 
--- those in which only vector length and level are asked for
+-- those in which only vector length and level are asked for: the stack check is on (request 4)
 abbrev pub Plain : Settings → ℕ → ℕ → Type 0
-Plain s B l = Items s B l false false 0
+Plain s B l = Items s B l false false 0 true
 
 -- each `with..` changes its item and no other, whatever the settings
 pub record WithsChange (s : Settings) : Type 0 where
-  pub streaming : (on : Bool) → Items (withStreaming s on) (s .«vector_bytes») (s .level) on (s .za) (s .«memory_address»)
-  pub za : (on : Bool) → Items (withZa s on) (s .«vector_bytes») (s .level) (s .streaming) on (s .«memory_address»)
-  pub memoryAddress : (a : ℕ) → Items (withMemoryAddress s a) (s .«vector_bytes») (s .level) (s .streaming) (s .za) a
+  pub streaming : (on : Bool) → Items (withStreaming s on) (s .«vector_bytes») (s .level) on (s .za) (s .«memory_address») (s .«stack_check»)
+  pub za : (on : Bool) → Items (withZa s on) (s .«vector_bytes») (s .level) (s .streaming) on (s .«memory_address») (s .«stack_check»)
+  pub memoryAddress : (a : ℕ) → Items (withMemoryAddress s a) (s .«vector_bytes») (s .level) (s .streaming) (s .za) a (s .«stack_check»)
+  pub stackCheck : (on : Bool) → Items (withStackCheck s on) (s .«vector_bytes») (s .level) (s .streaming) (s .za) (s .«memory_address») on
 
 abbrev pub ItemsChange : Type 0
 ItemsChange = (s : Settings) → WithsChange s
 
 -- settings as numbers
 abbrev pub numbersOf : Settings → List ℕ
-numbersOf s = s .«vector_bytes» ∷ s .level ∷ cond (s .streaming) 1 0 ∷ cond (s .za) 1 0 ∷ s .«memory_address» ∷ []
+numbersOf s = s .«vector_bytes» ∷ s .level ∷ cond (s .streaming) 1 0 ∷ cond (s .za) 1 0 ∷ s .«memory_address» ∷ cond (s .«stack_check») 0 1 ∷ []
 
 -- settings that no machine has: every check of them is answered 1, and so is the question for the lengths
 pub record NoMachine (s : Settings) : Type 0 where
   pub check : checkNumber s ≡ 1
   pub length : isVectorLength (s .«vector_bytes») ≡ false
 
--- settings that a host gives as numbers: any can be given; a switch is off by 0 alone; what is missing is as in new settings; too few or too many are
+-- settings that a host gives as numbers: any can be given; a switch is off by 0 alone, and the stack check, of which the last number says whether it is off, is on by 0 alone; what is missing is as in new settings; too few or too many are
 -- settings that no machine has
 pub record LentSettings : Type 0 where
   pub whole : (s : Settings) → settingsIn (numbersOf s) ≡ s
   pub off : (n : ℕ) → isOn n ≡ false → n ≡ 0
+  pub on : (n : ℕ) → isOff n ≡ true → n ≡ 0
   pub firstTwo : (B l : ℕ) → Plain (settingsIn (B ∷ l ∷ [])) B l
-  pub firstThree : (B l a : ℕ) → Items (settingsIn (B ∷ l ∷ a ∷ [])) B l (isOn a) false 0
-  pub firstFour : (B l a b : ℕ) → Items (settingsIn (B ∷ l ∷ a ∷ b ∷ [])) B l (isOn a) (isOn b) 0
-  pub allFive : (B l a b c : ℕ) → Items (settingsIn (B ∷ l ∷ a ∷ b ∷ c ∷ [])) B l (isOn a) (isOn b) c
+  pub firstThree : (B l a : ℕ) → Items (settingsIn (B ∷ l ∷ a ∷ [])) B l (isOn a) false 0 true
+  pub firstFour : (B l a b : ℕ) → Items (settingsIn (B ∷ l ∷ a ∷ b ∷ [])) B l (isOn a) (isOn b) 0 true
+  pub firstFive : (B l a b c : ℕ) → Items (settingsIn (B ∷ l ∷ a ∷ b ∷ c ∷ [])) B l (isOn a) (isOn b) c true
+  pub allSix : (B l a b c d : ℕ) → Items (settingsIn (B ∷ l ∷ a ∷ b ∷ c ∷ d ∷ [])) B l (isOn a) (isOn b) c (isOff d)
   pub few : (l : List ℕ) → length l < 2 → NoMachine (settingsIn l)
-  pub many : (l : List ℕ) → 5 < length l → NoMachine (settingsIn l)
+  pub many : (l : List ℕ) → 6 < length l → NoMachine (settingsIn l)
 
 -- checking: one answer, 0 exactly if the vector length is one of the five and the level at most 3, else 1
 pub record ChecksDetermine (s : Settings) : Type 0 where

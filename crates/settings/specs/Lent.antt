@@ -1,6 +1,6 @@
 -- Settings as hosts lend them: a list of numbers. Renders 01 §2 for the boundary to hosts, which 01 leaves open (docs/DECISIONS.md).
--- To believe: the order of the numbers; that 0 is off and every other number on; that vector length and level must be given, and what else is missing is
--- as new settings have it; and that too few or too many numbers are settings which no machine has.
+-- To believe: the order of the numbers; that 0 is off and every other number on, where the last one says whether the stack check is off; that vector length and
+-- level must be given, and what else is missing is as new settings have it, which is 0 for each; and that too few or too many numbers are settings which no machine has.
 -- Assumes nothing.
 use Prim.Native.Nat.{ℕ}
 use mathlib.Core.Bool.{Bool, cond, not, _&&_}
@@ -15,13 +15,16 @@ abbrev pub fewest : ℕ
 fewest = 2
 
 abbrev pub most : ℕ
-most = 5
+most = 6
 
 -- a switch
-abbrev pub isOn : ℕ → Bool
-isOn n = not (eqb n 0)
+abbrev pub isOff : ℕ → Bool
+isOff n = eqb n 0
 
--- each number in its place, or what it is where it is missing
+abbrev pub isOn : ℕ → Bool
+isOn n = not (isOff n)
+
+-- each number in its place, or what it is where it is missing; the last says whether the stack check is off
 abbrev pub settingsAt : List ℕ → Settings
 settingsAt l =
     record {
@@ -30,6 +33,7 @@ settingsAt l =
       streaming = isOn (getD l 2 0);
       za = isOn (getD l 3 0);
       «memory_address» = getD l 4 0;
+      «stack_check» = isOff (getD l 5 0);
     }
 
 -- the settings that no machine has: there are no vectors of 0 bytes, so every call on them is answered 1

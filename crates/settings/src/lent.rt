@@ -14,8 +14,8 @@ fn item(items: &[u64], i: usize, missing: u64) -> u64
     missing
 }
 
-// Settings of which every number is given.
-fn settings_at(items: [u64; 5]) -> Settings
+// Settings of which every number is given; the last says whether the stack check is off.
+fn settings_at(items: [u64; 6]) -> Settings
     ensures { λ r. ⌜ r ≡ settingsAt items ⌝ }
 {
     Settings {
@@ -24,6 +24,7 @@ fn settings_at(items: [u64; 5]) -> Settings
         streaming: items[2] != 0,
         za: items[3] != 0,
         memory_address: items[4],
+        stack_check: items[5] == 0,
     }
 }
 
@@ -34,14 +35,14 @@ pub fn settings_in(items: &[u64]) -> Settings
 {
     let count = items.len();
     // Hosts give all, as a rule: one test then, and not one for each.
-    if count == 5 {
-        return settings_at([items[0], items[1], items[2], items[3], items[4]]);
+    if count == 6 {
+        return settings_at([items[0], items[1], items[2], items[3], items[4], items[5]]);
     }
     if count < 2 {
-        return settings_at([0; 5]);
+        return Settings::unchecked(0, 0);
     }
-    if 5 < count {
-        return settings_at([0; 5]);
+    if 6 < count {
+        return Settings::unchecked(0, 0);
     }
     settings_at([
         items[0],
@@ -49,5 +50,6 @@ pub fn settings_in(items: &[u64]) -> Settings
         item(items, 2, 0),
         item(items, 3, 0),
         item(items, 4, 0),
+        item(items, 5, 0),
     ])
 }

@@ -67,4 +67,4 @@ pub record ExportsAllDetermine : Type 0 where
   pub lengths : (s : Settings) (l : List ℕ) → LengthExportsDetermine s l
   -- by their count alone
   pub few : (given : List ℕ) → length given < 2 → AnswersNoMachine (settingsIn given)
-  pub many : (given : List ℕ) → 5 < length given → AnswersNoMachine (settingsIn given)
+  pub many : (given : List ℕ) → 6 < length given → AnswersNoMachine (settingsIn given)

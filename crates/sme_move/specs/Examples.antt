@@ -20,7 +20,7 @@ abbrev pub GivesLengths : List ℕ → List ℕ → List ℕ → Type 0
 GivesLengths given ls l = (r : ℕ) (ls′ : List ℕ) → LengthExports (settingsIn given) ls r ls′ → r ∷ ls′ ≡ l
 
 pub record ExportExamplesHold : Type 0 where
-  pub versionIs : version ≡ 5
+  pub versionIs : version ≡ 6
   -- results in an array without a place, with one, with more; of two results the first where there is one place
   pub results : map (filled (7 ∷ [])) ([] ∷ (9 ∷ []) ∷ (9 ∷ 8 ∷ 6 ∷ []) ∷ []) ≡ [] ∷ (7 ∷ []) ∷ (7 ∷ 8 ∷ 6 ∷ []) ∷ []
   pub cut : filled (7 ∷ 5 ∷ []) (9 ∷ []) ≡ 7 ∷ []

@@ -18,7 +18,7 @@ use Rattle.semantics.specs.declared.answer.Executed.{Executed}
 
 -- the version of what is exported: major and minor number
 abbrev pub version : ℕ
-version = 65536 * 0 + 5
+version = 65536 * 0 + 6
 
 -- numbers at the beginning of a host's array, as far as it has places for them; what is behind them stays
 abbrev pub filled : List ℕ → List ℕ → List ℕ

@@ -15,7 +15,14 @@ use encoding::Decoded;
 pub extern "C" fn sme_version_0_5() -> u32
     ensures { λ r. ⌜ r ≡ version ⌝ }
 {
-    5
+    6
+}
+
+#[no_mangle]
+pub extern "C" fn sme_version_0_6() -> u32
+    ensures { λ r. ⌜ r ≡ version ⌝ }
+{
+    6
 }
 
 // Executes one instruction word on the buffers that are lent, and returns the answer's number

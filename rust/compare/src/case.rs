@@ -16,7 +16,8 @@ pub struct Case {
 }
 
 impl Case {
-    /// A case with empty buffers, to be filled by the generator.
+    /// A case with empty buffers, to be filled by the generator. The switches
+    /// are as new settings have them.
     pub fn empty() -> Case {
         Case {
             settings: Settings {
@@ -25,6 +26,7 @@ impl Case {
                 streaming: false,
                 za_on: false,
                 memory_address: 0,
+                stack_check: true,
             },
             word: 0,
             x: Vec::new(),
@@ -110,5 +112,6 @@ pub fn archive_settings(settings: &Settings) -> sme_move::Settings {
     own.streaming = settings.streaming;
     own.za = settings.za_on;
     own.memory_address = settings.memory_address;
+    own.stack_check = settings.stack_check;
     own
 }

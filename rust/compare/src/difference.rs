@@ -1,6 +1,7 @@
 //! The first difference, told in full.
 
 use crate::case::{Case, Outcome};
+use crate::names::on_or_off;
 use second::decode::decode;
 use std::fmt::{self, Display, Formatter};
 
@@ -43,12 +44,13 @@ impl Difference {
         let settings = &case.settings;
         writeln!(
             f,
-            "settings: vector length {}, level {}, streaming {}, ZA {}, memory address {:016X}",
+            "settings: vector length {}, level {}, streaming {}, ZA {}, memory address {:016X}, stack check {}",
             settings.vector_bytes,
             settings.level,
             on_or_off(settings.streaming),
             on_or_off(settings.za_on),
-            settings.memory_address
+            settings.memory_address,
+            on_or_off(settings.stack_check)
         )?;
         writeln!(
             f,
@@ -124,14 +126,6 @@ fn write_buffer(f: &mut Formatter, name: &str, unit: usize, states: [&[u8]; 3]) 
     writeln!(f, "  before {}", hexadecimal(&before[shown.clone()]))?;
     writeln!(f, "  second {}", hexadecimal(&second[shown.clone()]))?;
     writeln!(f, "  archive{}", hexadecimal(&archive[shown]))
-}
-
-fn on_or_off(switch: bool) -> &'static str {
-    if switch {
-        "on"
-    } else {
-        "off"
-    }
 }
 
 fn hexadecimal(bytes: &[u8]) -> String {

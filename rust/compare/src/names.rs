@@ -71,6 +71,15 @@ pub fn name(kind: Kind) -> &'static str {
     }
 }
 
+/// What the position of a switch is called.
+pub fn on_or_off(switch: bool) -> &'static str {
+    if switch {
+        "on"
+    } else {
+        "off"
+    }
+}
+
 /// Whether a kind goes to memory.
 pub fn is_access(kind: Kind) -> bool {
     ACCESSES.contains(&kind)

@@ -1,7 +1,8 @@
-//! How often each answer was given, by encoding and vector length.
+//! How often each answer was given, by encoding, vector length and position
+//! of the stack check.
 
 use crate::case::Case;
-use crate::names::{is_access, Named, FAULT};
+use crate::names::{is_access, on_or_off, Named, FAULT};
 use crate::rows::{encoding, Drawn, NO_ENCODING, TABLE};
 use second::execute::VECTOR_LENGTHS;
 use sme_move::Refusal;
@@ -45,17 +46,29 @@ pub(crate) const NAMES: [&str; NO_ENCODING + 1] = [
 const ANSWERS: usize = FAULT.number() as usize + 1;
 /// The one that a vector length which is none of the five gets.
 const BAD_SETTINGS: usize = Refusal::BadSettings.number() as usize;
+/// The positions of the stack check, in the order of the lines: on has number
+/// 0 and off number 1.
+const POSITIONS: [bool; 2] = [true, false];
 
-/// Counts by encoding, vector length and answer, of cases that are drawn
-/// from some rows.
+/// Counts by encoding, vector length, position of the stack check and
+/// answer, of cases that are drawn from some rows.
 ///
 /// A case whose vector length is not one of the five has no line to stand
-/// in; it is answered 1 and counted apart, by encoding.
+/// in; it is answered 1 and counted apart, by encoding and position.
 pub struct Table {
     drawn: Drawn,
-    counts: [[[u64; ANSWERS]; VECTOR_LENGTHS.len()]; NAMES.len()],
-    other_length: [u64; NAMES.len()],
+    counts: [[[[u64; ANSWERS]; POSITIONS.len()]; VECTOR_LENGTHS.len()]; NAMES.len()],
+    other_length: [[u64; POSITIONS.len()]; NAMES.len()],
     strange: Vec<String>,
+}
+
+/// A line of the table: the cases of one encoding that have one of the five
+/// vector lengths and the stack check in one position.
+struct Line<'a> {
+    row: usize,
+    vector_bytes: u64,
+    stack_check: bool,
+    counts: &'a [u64; ANSWERS],
 }
 
 impl Table {
@@ -63,8 +76,8 @@ impl Table {
     pub fn new(drawn: Drawn) -> Table {
         Table {
             drawn,
-            counts: [[[0; ANSWERS]; VECTOR_LENGTHS.len()]; NAMES.len()],
-            other_length: [0; NAMES.len()],
+            counts: [[[[0; ANSWERS]; POSITIONS.len()]; VECTOR_LENGTHS.len()]; NAMES.len()],
+            other_length: [[0; POSITIONS.len()]; NAMES.len()],
             strange: Vec::new(),
         }
     }
@@ -74,12 +87,13 @@ impl Table {
         let row = encoding(case.word).unwrap_or(NO_ENCODING);
         let given = case.settings.vector_bytes;
         let length = VECTOR_LENGTHS.iter().position(|own| *own == given);
+        let position = usize::from(!case.settings.stack_check);
         let drawn = self.drawn.has(row);
         match (length, answer as usize) {
             (Some(length), answer) if drawn && answer < ANSWERS => {
-                self.counts[row][length][answer] += 1;
+                self.counts[row][length][position][answer] += 1;
             }
-            (None, BAD_SETTINGS) if drawn => self.other_length[row] += 1,
+            (None, BAD_SETTINGS) if drawn => self.other_length[row][position] += 1,
             _ => self.strange.push(format!(
                 "{}, vector length {given}: answer {answer}",
                 NAMES[row]
@@ -90,11 +104,12 @@ impl Table {
     /// Takes the counts of other cases in. What is strange is sorted, so that
     /// the order in which threads come to an end does not show.
     pub fn merge(&mut self, other: Table) {
-        let cells = self.counts.iter_mut().flatten().flatten();
-        for (own, other) in cells.zip(other.counts.iter().flatten().flatten()) {
+        let cells = self.counts.iter_mut().flatten().flatten().flatten();
+        for (own, other) in cells.zip(other.counts.iter().flatten().flatten().flatten()) {
             *own += other;
         }
-        for (own, other) in self.other_length.iter_mut().zip(&other.other_length) {
+        let apart = self.other_length.iter_mut().flatten();
+        for (own, other) in apart.zip(other.other_length.iter().flatten()) {
             *own += other;
         }
         self.strange.extend(other.strange);
@@ -105,8 +120,12 @@ impl Table {
     pub fn missing(&self) -> Vec<String> {
         let mut missing = self.cells(|possible, count| possible && count == 0);
         for (row, name) in self.names() {
-            if self.other_length[row] == 0 {
-                missing.push(format!("{name}, other vector length: 0 cases"));
+            for (stack_check, count) in POSITIONS.into_iter().zip(self.other_length[row]) {
+                if count == 0 {
+                    let stack = on_or_off(stack_check);
+                    let cell = format!("{name}, other vector length, stack check {stack}");
+                    missing.push(format!("{cell}: 0 cases"));
+                }
             }
         }
         if 2 * self.answered(0) < self.total() {
@@ -126,13 +145,10 @@ impl Table {
     /// The cells that `chosen` picks by whether they can occur and by count.
     fn cells(&self, chosen: impl Fn(bool, u64) -> bool) -> Vec<String> {
         let mut cells = Vec::new();
-        for (row, name) in self.names() {
-            for (bytes, line) in VECTOR_LENGTHS.iter().zip(&self.counts[row]) {
-                for (answer, &count) in line.iter().enumerate() {
-                    if chosen(can_occur(row, answer), count) {
-                        let cell = format!("{name}, vector length {bytes}, answer {answer}");
-                        cells.push(format!("{cell}: {count} cases"));
-                    }
+        for line in self.lines() {
+            for (answer, &count) in line.counts.iter().enumerate() {
+                if chosen(line.can_occur(answer), count) {
+                    cells.push(format!("{line}, answer {answer}: {count} cases"));
                 }
             }
         }
@@ -147,13 +163,20 @@ impl Table {
 
     /// How many cases had this answer.
     pub fn answered(&self, answer: usize) -> u64 {
+        let positions = 0..POSITIONS.len();
+        positions.map(|own| self.answered_at(own, answer)).sum()
+    }
+
+    /// How many of them had the stack check in the position of this number.
+    fn answered_at(&self, position: usize, answer: usize) -> u64 {
         let lines = self.counts.iter().flatten();
+        let apart = self.other_length.iter().map(|own| own[position]);
         let apart = if answer == BAD_SETTINGS {
-            self.other_length.iter().sum()
+            apart.sum()
         } else {
             0
         };
-        lines.map(|line| line[answer]).sum::<u64>() + apart
+        lines.map(|line| line[position][answer]).sum::<u64>() + apart
     }
 
     fn total(&self) -> u64 {
@@ -166,52 +189,98 @@ impl Table {
         let names = NAMES.into_iter().enumerate();
         names.filter(move |&(row, _)| drawn.has(row))
     }
+
+    /// The lines of these rows.
+    fn lines(&self) -> impl Iterator<Item = Line<'_>> {
+        self.names().flat_map(|(row, _)| self.lines_of(row))
+    }
+
+    /// The lines of one row: for each vector length, one with the stack check
+    /// on and one with it off.
+    fn lines_of(&self, row: usize) -> impl Iterator<Item = Line<'_>> {
+        let lengths = VECTOR_LENGTHS.into_iter().zip(&self.counts[row]);
+        lengths.flat_map(move |(vector_bytes, positions)| {
+            let positions = POSITIONS.into_iter().zip(positions);
+            positions.map(move |(stack_check, counts)| Line {
+                row,
+                vector_bytes,
+                stack_check,
+                counts,
+            })
+        })
+    }
 }
 
-/// Which answers document 01 allows as amended: 6 and 7 to loads and stores
-/// only, 0 and what comes after decoding only to a word with an encoding.
-/// Every encoding has a level below its own, so that 3 can occur to each.
-fn can_occur(row: usize, answer: usize) -> bool {
-    match Refusal::of_number(answer as u32, 0) {
-        Some(Refusal::BadSettings | Refusal::BadLengths | Refusal::Undecodable) => true,
-        Some(Refusal::StackMisaligned | Refusal::OutsideMemory { .. }) => {
-            TABLE.get(row).is_some_and(|own| is_access(own.kind()))
+impl Line<'_> {
+    /// Which answers document 01 allows as amended: 6 and 7 to loads and
+    /// stores only, 6 only with the stack check on, 0 and what comes after
+    /// decoding only to a word with an encoding. Every encoding has a level
+    /// below its own, so that 3 can occur to each.
+    fn can_occur(&self, answer: usize) -> bool {
+        let access = || {
+            let row = TABLE.get(self.row);
+            row.is_some_and(|own| is_access(own.kind()))
+        };
+        match Refusal::of_number(answer as u32, 0) {
+            Some(Refusal::BadSettings | Refusal::BadLengths | Refusal::Undecodable) => true,
+            Some(Refusal::StackMisaligned) => self.stack_check && access(),
+            Some(Refusal::OutsideMemory { .. }) => access(),
+            _ => self.row != NO_ENCODING,
         }
-        _ => row != NO_ENCODING,
+    }
+
+    /// A count, or a dash where nothing can be.
+    fn told(&self, answer: usize) -> String {
+        match self.counts[answer] {
+            0 if !self.can_occur(answer) => "-".to_string(),
+            count => count.to_string(),
+        }
+    }
+}
+
+/// What the line is called where a cell of it is told of.
+impl Display for Line<'_> {
+    fn fmt(&self, f: &mut Formatter) -> fmt::Result {
+        let (name, bytes) = (NAMES[self.row], self.vector_bytes);
+        let stack = on_or_off(self.stack_check);
+        write!(f, "{name}, vector length {bytes}, stack check {stack}")
     }
 }
 
 impl Display for Table {
     fn fmt(&self, f: &mut Formatter) -> fmt::Result {
-        write!(f, "{:<30} {:>6}", "encoding", "length")?;
-        for answer in 0..ANSWERS {
-            write!(f, " {answer:>8}")?;
-        }
-        writeln!(f)?;
+        let numbers = (0..ANSWERS).map(|answer| answer.to_string());
+        write_line(f, "encoding", "length", "stack", numbers)?;
         for (row, name) in self.names() {
-            for (length, bytes) in VECTOR_LENGTHS.iter().enumerate() {
-                write!(f, "{name:<30} {bytes:>6}")?;
-                write_line(f, row, &self.counts[row][length])?;
+            for line in self.lines_of(row) {
+                let length = line.vector_bytes.to_string();
+                let told = (0..ANSWERS).map(|answer| line.told(answer));
+                write_line(f, name, &length, on_or_off(line.stack_check), told)?;
             }
-            let apart = self.other_length[row];
-            writeln!(f, "{name:<30} {:>6} {:>8} {apart:>8}", "other", "-")?;
+            for (stack_check, count) in POSITIONS.into_iter().zip(self.other_length[row]) {
+                let told = ["-".to_string(), count.to_string()];
+                write_line(f, name, "other", on_or_off(stack_check), told)?;
+            }
         }
-        write!(f, "{:<30} {:>6}", "all", "")?;
-        for answer in 0..ANSWERS {
-            write!(f, " {:>8}", self.answered(answer))?;
+        for (position, stack_check) in POSITIONS.into_iter().enumerate() {
+            let told = (0..ANSWERS).map(|answer| self.answered_at(position, answer).to_string());
+            write_line(f, "all", "", on_or_off(stack_check), told)?;
         }
-        writeln!(f)
+        Ok(())
     }
 }
 
-/// One line of counts; a dash where nothing can be.
-fn write_line(f: &mut Formatter, row: usize, line: &[u64; ANSWERS]) -> fmt::Result {
-    for (answer, &count) in line.iter().enumerate() {
-        if count == 0 && !can_occur(row, answer) {
-            write!(f, " {:>8}", "-")?;
-        } else {
-            write!(f, " {count:>8}")?;
-        }
+/// One line, in columns.
+fn write_line(
+    f: &mut Formatter,
+    name: &str,
+    length: &str,
+    stack: &str,
+    told: impl IntoIterator<Item = String>,
+) -> fmt::Result {
+    write!(f, "{name:<30} {length:>6} {stack:>5}")?;
+    for own in told {
+        write!(f, " {own:>8}")?;
     }
     writeln!(f)
 }

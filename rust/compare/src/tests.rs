@@ -142,6 +142,41 @@ fn missing_long_memory_is_told() {
     }
 }
 
+/// A run that never had the stack check off is told so of every encoding, and
+/// of loads and stores by a misaligned stack pointer, done and refused with 7;
+/// one that never had it on is told so too, and that 6 was never given.
+#[test]
+fn missing_positions_of_the_stack_check_are_told() {
+    for stack_check in [true, false] {
+        let mut random = Random::new(11);
+        let mut case = Case::empty();
+        let mut outcome = Outcome::default();
+        let mut counts = Counts::new(Drawn::Request2);
+        for _ in 0..150_000 {
+            generate(&mut random, &mut case, Drawn::Request2);
+            case.settings.stack_check = stack_check;
+            outcome.run_second(&case, Mistake::None);
+            counts.add(&case, &outcome);
+        }
+        let told = counts.check().expect_err("a position is missing");
+        let missing = format!("stack check {}", names::on_or_off(!stack_check));
+        for name in &NAMES[Drawn::Request2.rows()] {
+            let line = format!("{name}, vector length 16, {missing}, answer 0: 0 cases");
+            assert!(told.contains(&line), "{line}");
+        }
+        for name in ["store", "load"] {
+            let line = |m: u8, what: &str| told.contains(&format!("never: {name}, m={m}, {what}"));
+            for m in [2, 4, 8, 16] {
+                assert_eq!(line(m, "6"), !stack_check);
+                for what in ["done", "fault"] {
+                    let by_stack = format!("{what}, by a misaligned stack pointer");
+                    assert_eq!(line(m, &by_stack), stack_check);
+                }
+            }
+        }
+    }
+}
+
 /// How many of 100,000 cases have words of each row, and of none.
 fn counts_of_rows(drawn: Drawn) -> [usize; NO_ENCODING + 1] {
     let mut random = Random::new(12);
@@ -232,7 +267,8 @@ fn rows_of_requests_come_after_those_of_the_document() {
 
 /// An empty run has much to complain of: each encoding has six answers, a
 /// load or store eight, the words without an encoding three, each at five
-/// lengths, and each has a cell apart.
+/// lengths, and each has a cell apart. All of it there is with the stack check
+/// on and with it off, but for answer 6.
 #[test]
 fn missing_cells_are_told() {
     for (drawn, moves, accesses) in [
@@ -241,8 +277,8 @@ fn missing_cells_are_told() {
         (Drawn::Request2, 0, 9),
     ] {
         let missing = Table::new(drawn).missing();
-        let cells = moves * 6 + accesses * 8 + 3;
-        assert_eq!(missing.len(), cells * 5 + moves + accesses + 1);
+        let cells = 2 * (moves * 6 + accesses * 8 + 3) - accesses;
+        assert_eq!(missing.len(), cells * 5 + 2 * (moves + accesses + 1));
     }
 }
 
@@ -256,6 +292,22 @@ fn impossible_cells_are_told() {
         let mut table = Table::new(Drawn::All);
         table.add(&case, answer);
         assert_eq!(table.impossible().len(), told, "{answer}");
+    }
+}
+
+/// Answer 6 is told where the stack check is off, of loads and of stores.
+#[test]
+fn answer_6_is_told_with_the_stack_check_off() {
+    let mut case = Case::empty();
+    case.settings.vector_bytes = 16;
+    for word in [0xE03F_03E0, 0xE01F_03E0] {
+        case.word = word;
+        for (stack_check, told) in [(true, 0), (false, 1)] {
+            case.settings.stack_check = stack_check;
+            let mut table = Table::new(Drawn::All);
+            table.add(&case, 6);
+            assert_eq!(table.impossible().len(), told, "{word:08X}");
+        }
     }
 }
 
@@ -328,6 +380,9 @@ fn worked_examples_tell_mistakes() {
         Mistake::FarBytesOutside,
         Mistake::MemoryLengthIn16Bits,
         Mistake::MemoryOffsetIn16Bits,
+        Mistake::StackSwitchIgnored,
+        Mistake::StackSwitchInverted,
+        Mistake::StackSwitchForStoresOnly,
     ] {
         let told = |worked: &worked::Worked| {
             let mut outcome = Outcome::default();

@@ -191,6 +191,12 @@ impl<'a> View<'a> {
         self.x(31).is_multiple_of(16)
     }
 
+    /// Whether the stack check, if it is on, refuses the load or store: the
+    /// stack pointer is the base and not aligned, and an element is active.
+    pub fn stack_misaligned(&self) -> bool {
+        self.base() == Some(31) && !self.active.is_empty() && !self.aligned()
+    }
+
     /// A register, or 0 where X is too short to have it.
     fn x(&self, number: u8) -> u64 {
         let found = self.case.x.get(usize::from(number));

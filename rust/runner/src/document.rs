@@ -84,6 +84,7 @@ fn settings(machine: &Machine) -> Json {
         ("array", Json::Bool(settings.za)),
         ("memory_address", Json::address(settings.memory_address)),
         ("memory_bytes", Json::Number(machine.memory.len())),
+        ("stack_check", Json::Bool(settings.stack_check)),
     ])
 }
 

@@ -79,11 +79,12 @@ fn settings(machine: &Machine) -> String {
         ),
     };
     format!(
-        "vectors of {} bytes, level {}, streaming {}, array {}, {memory}",
+        "vectors of {} bytes, level {}, streaming {}, array {}, stack check {}, {memory}",
         settings.vector_bytes,
         settings.level,
         on(settings.streaming),
-        on(settings.za)
+        on(settings.za),
+        on(settings.stack_check)
     )
 }
 

@@ -19,7 +19,7 @@ use std::path::{Path, PathBuf};
 use std::time::Instant;
 use verdict::{judge, Verdict};
 
-const SCRIPTS: [&str; 17] = [
+const SCRIPTS: [&str; 18] = [
     include_str!("../example.txt"),
     include_str!("scripts/access.txt"),
     include_str!("scripts/array.txt"),
@@ -34,6 +34,7 @@ const SCRIPTS: [&str; 17] = [
     include_str!("../../../examples/scripts/move-from-array.txt"),
     include_str!("../../../examples/scripts/move-from-tile.txt"),
     include_str!("../../../examples/scripts/move-to-tile.txt"),
+    include_str!("../../../examples/scripts/stack-check.txt"),
     include_str!("../../../examples/scripts/store.txt"),
     include_str!("../../../examples/scripts/transpose.txt"),
     WITH_FILES,

@@ -136,7 +136,7 @@ fn nothing_is_said_in_assembler() {
     texts.push(output(&[
         "--encode", "4", "0", "0", "0", "3", "8", "0", "11", "0", "0", "2",
     ]));
-    for name in ["store", "load", "transpose"] {
+    for name in ["store", "load", "stack-check", "transpose"] {
         let script = format!("../../examples/scripts/{name}.txt");
         let file = format!("{}/{script}", env!("CARGO_MANIFEST_DIR"));
         texts.extend([output(&["--json", &file]), output(&[&file]), read(&script)]);

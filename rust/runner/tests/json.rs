@@ -25,13 +25,14 @@ const TOP: [&str; 8] = [
     "end",
     "summary",
 ];
-const SETTINGS: [&str; 6] = [
+const SETTINGS: [&str; 7] = [
     "vector_bytes",
     "level",
     "streaming",
     "array",
     "memory_address",
     "memory_bytes",
+    "stack_check",
 ];
 const WORD: [&str; 11] = [
     "number",
@@ -168,6 +169,21 @@ fn every_script_gives_a_document_of_the_documented_shape() {
     let last = vectors.last().expect("registers changed");
     assert_eq!(last.get("number").number(), 7);
     assert_eq!(last.get("bytes").text(), "14141414242424243434343444444444");
+}
+
+#[test]
+fn the_stack_check_is_in_the_document() {
+    for (line, on) in [
+        ("", true),
+        ("stack-check on", true),
+        ("stack-check off", false),
+    ] {
+        let script = format!("vector-bytes 16\n{line}\nword 00000000\n");
+        let output = piped(&["-", "--json"], script.as_bytes());
+        let document = document(output.stdout);
+        let found = document.get("settings").get("stack_check");
+        assert_eq!(*found, Value::Bool(on));
+    }
 }
 
 #[test]

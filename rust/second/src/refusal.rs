@@ -20,7 +20,8 @@ pub enum Refusal {
     StreamingOff,
     /// 5: ZA is off.
     ZaOff,
-    /// 6: the stack pointer is the base and is not a multiple of 16.
+    /// 6: the stack check is on, and the stack pointer is the base and is not
+    /// a multiple of 16.
     StackPointer,
     /// 7: a byte of an active element is not in memory.
     Fault { address: u64 },

@@ -17,7 +17,8 @@ pub enum Refusal {
     StreamingOff,
     /// 5: the array is off.
     ZaOff,
-    /// 6: the stack pointer is the base of a load or store with an active element, and no multiple of 16.
+    /// 6: the stack pointer is the base of a load or store with an active element, and no multiple of 16; only with
+    /// the stack check on.
     StackMisaligned,
     /// 7: a byte of an active element is not in memory; the address of the first such byte of the lowest such
     /// element.

@@ -38,7 +38,7 @@ const NO_INSTRUCTION: u32 = 0;
 #[derive(Clone, Debug, PartialEq, Eq)]
 #[non_exhaustive]
 pub struct Machine {
-    /// With both switches, and the address of memory's first byte.
+    /// With the switches, and the address of memory's first byte.
     pub settings: Settings,
     /// Registers and array.
     pub state: State,

@@ -8,7 +8,7 @@ use crate::settings::Settings;
 const UNWRITTEN: u64 = 0x5A5A_5A5A_5A5A_5A5A;
 
 extern "C" {
-    fn sme_version_0_5() -> u32;
+    fn sme_version_0_6() -> u32;
     fn sme_execute_word(
         settings: *const u64,
         settings_len: usize,
@@ -47,7 +47,7 @@ extern "C" {
 }
 
 /// The version that this package is written for: 65536 times the major number and the minor one.
-pub const VERSION: u32 = 5;
+pub const VERSION: u32 = 6;
 
 /// The version of the archive. It is never less than [`VERSION`]: an older archive has no such function, so that a
 /// program that uses this package does not link with it.
@@ -59,22 +59,23 @@ pub const VERSION: u32 = 5;
 /// ```
 pub fn version() -> u32 {
     // SAFETY: a number only.
-    unsafe { sme_version_0_5() }
+    unsafe { sme_version_0_6() }
 }
 
 /// For the linker, in programs that do not ask for the version too.
 #[used]
-static NEEDED: unsafe extern "C" fn() -> u32 = sme_version_0_5;
+static NEEDED: unsafe extern "C" fn() -> u32 = sme_version_0_6;
 
 /// The settings as the archive's functions take them.
 #[inline]
-fn given(settings: Settings) -> [u64; 5] {
+fn given(settings: Settings) -> [u64; 6] {
     let Settings {
         vector_bytes,
         level,
         streaming,
         za,
         memory_address,
+        stack_check,
     } = settings;
     [
         vector_bytes,
@@ -82,12 +83,15 @@ fn given(settings: Settings) -> [u64; 5] {
         streaming.into(),
         za.into(),
         memory_address,
+        (!stack_check).into(),
     ]
 }
 
 /// Executes a word: the answer's number, and the address that 7 carries, 0 with every other.
 #[inline]
 pub fn execute(settings: Settings, word: u32, buffers: Buffers<'_>) -> (u32, u64) {
+    // First, since the archive reads it first: so it has been written by then, and fewer registers are in use here.
+    let given = given(settings);
     let Buffers {
         x,
         z,
@@ -95,7 +99,6 @@ pub fn execute(settings: Settings, word: u32, buffers: Buffers<'_>) -> (u32, u64
         za,
         memory,
     } = buffers;
-    let given = given(settings);
     let mut address = UNWRITTEN;
     // SAFETY: each pointer comes from a slice that lives through the call and goes with that slice's
     // length, and the address is an array of one. What is written is borrowed as writable, so it overlaps nothing;

@@ -17,6 +17,9 @@ pub struct Settings {
     pub za: bool,
     /// The address of memory's first byte.
     pub memory_address: u64,
+    /// Whether a misaligned stack pointer as the base of a load or store is refused
+    /// ([`Refusal::StackMisaligned`]). With the check off it is a base like any other.
+    pub stack_check: bool,
 }
 
 /// The lengths that a vector length fixes: X in numbers, the others in bytes.
@@ -35,7 +38,7 @@ impl Settings {
 
     pub const MAX_LEVEL: u64 = 3;
 
-    /// Settings of this vector length and level, with both switches off and memory at address 0.
+    /// Settings of this vector length and level, with streaming and ZA off, memory at address 0 and the stack check on.
     ///
     /// ```
     /// use sme_move::{Refusal, Settings};
@@ -56,6 +59,7 @@ impl Settings {
             streaming: false,
             za: false,
             memory_address: 0,
+            stack_check: true,
         }
     }
 
@@ -90,6 +94,12 @@ impl Settings {
     #[must_use]
     pub fn with_memory_address(mut self, address: u64) -> Settings {
         self.memory_address = address;
+        self
+    }
+
+    #[must_use]
+    pub fn with_stack_check(mut self, on: bool) -> Settings {
+        self.stack_check = on;
         self
     }
 

@@ -147,3 +147,23 @@ fn the_stack_pointer_is_looked_at_with_an_active_element() {
         assert!(state == expected);
     }
 }
+
+/// With the stack check off it is a base like any other: the load is done, or gets 7 with the address.
+#[test]
+fn a_misaligned_stack_pointer_is_a_base_with_the_check_off() {
+    let settings = settings().with_stack_check(false);
+    for size in SIZES {
+        let on_stack = load(size, Direction::Horizontal, 0) | 0x1F_03E0;
+        let (mut state, mut expected) = (state(), state());
+        state.x[31] = START + 8;
+        expected.x[31] = START + 8;
+        let mut memory: Vec<u8> = (0..64).collect();
+        let tile = usize::from(size.bytes()) - 1;
+        expected.za[32 * tile..][..32].copy_from_slice(&memory[8..40]);
+        assert_eq!(state.execute(settings, on_stack, &mut memory), Ok(()));
+        assert!(state == expected);
+        let refusal = Refusal::OutsideMemory { address: START + 8 };
+        assert_eq!(state.execute(settings, on_stack, &mut []), Err(refusal));
+        assert!(state == expected);
+    }
+}

@@ -226,7 +226,7 @@ uint32_t __wrap_sme_execute_word(const uint64_t *settings, size_t settings_count
         all[i] = settings[i];
     }
     const mistake *wrong = chosen();
-    const call right = {{all[0], all[1], all[2] != 0, all[3] != 0, all[4]},
+    const call right = {{all[0], all[1], all[2] != 0, all[3] != 0, all[4], all[5] != 0},
                         settings_count,
                         word,
                         {x, x_count, z, z_bytes, p, p_bytes, za, za_bytes, memory, memory_bytes},

@@ -35,37 +35,48 @@ impl Span {
 }
 
 /// Sets the registers so that the access is done or refused, as the causes
-/// say.
+/// say. With the stack check off a misaligned stack pointer is no cause: it is
+/// drawn where it would be one, and often elsewhere.
 pub fn set(random: &mut Random, case: &mut Case, operation: &Flat, causes: &Causes) {
     let misaligned = causes.has(Refusal::StackMisaligned);
-    let refused = misaligned || causes.has(FAULT);
-    fit_predicate(random, case, operation, refused);
+    let checked = case.settings.stack_check;
+    if misaligned || causes.has(FAULT) {
+        activate(random, case, operation);
+    }
+    let refused = (misaligned && checked) || causes.has(FAULT);
+    if !refused {
+        fit_to_memory(case, operation);
+    }
     let span = span(predicates::register(case, operation), operation);
     let start = match span {
         None => value(random),
         Some(span) if causes.has(FAULT) => outside(random, case, span),
         Some(span) => inside(random, case, span),
     };
-    let aligned = match span {
-        None => random.chance(1, 2),
-        Some(_) => !misaligned,
-    };
-    set_registers(random, case, operation, start, aligned);
+    let either = span.is_none() || !checked;
+    let misaligned = misaligned || (either && random.chance(1, 2));
+    set_registers(random, case, operation, start, !misaligned);
 }
 
-/// A refused access needs an active element. One that is to be done must
-/// have its active elements close enough together for memory.
-fn fit_predicate(random: &mut Random, case: &mut Case, operation: &Flat, refused: bool) {
+/// Makes an element active if there is none: causes 6 and 7 need one.
+fn activate(random: &mut Random, case: &mut Case, operation: &Flat) {
+    let m = usize::from(operation.element_bytes);
+    let register = predicates::register(case, operation);
+    if span(register, operation).is_none() {
+        let bit = m * random.below(8 * register.len() / m);
+        register[bit / 8] |= 1 << (bit % 8);
+    }
+}
+
+/// An access that is to be done must have its active elements close enough
+/// together for memory: clears those behind. Memory shorter than an element
+/// leaves none.
+fn fit_to_memory(case: &mut Case, operation: &Flat) {
     let m = usize::from(operation.element_bytes);
     let room = case.memory.len() / m;
     let register = predicates::register(case, operation);
-    match span(register, operation) {
-        None if refused => {
-            let bit = m * random.below(8 * register.len() / m);
-            register[bit / 8] |= 1 << (bit % 8);
-        }
-        Some(span) if !refused => clear_from(register, (span.low as usize + room) * m),
-        _ => (),
+    if let Some(span) = span(register, operation) {
+        clear_from(register, (span.low as usize + room) * m);
     }
 }
 
@@ -209,13 +220,12 @@ fn stack_pointer(random: &mut Random, aligned: bool) -> u64 {
 }
 
 /// The stack pointer alone gives the address. To make it a multiple of 16,
-/// memory is moved along with it.
+/// or none, memory is moved along with it.
 fn stack_pointer_at(case: &mut Case, start: u64, aligned: bool) -> u64 {
-    let over = start % 16;
-    if aligned {
-        moved_along(case, start, over, 16)
-    } else {
-        start | u64::from(over == 0)
+    match (aligned, start % 16) {
+        (true, over) => moved_along(case, start, over, 16),
+        (false, 0) => moved_along(case, start, 1, 2),
+        (false, _) => start,
     }
 }
 

@@ -39,7 +39,8 @@ pub const OTHER_LEVELS: [u64; 10] = [
     u64::MAX,
 ];
 
-/// Settings under which a word of level `level` is done.
+/// Settings under which a word of level `level` is done. The stack check is
+/// on or off, whatever the word, as only loads and stores may look at it.
 pub fn set(random: &mut Random, case: &mut Case, level: u8) {
     let levels = 4 - usize::from(level);
     case.settings = Settings {
@@ -48,13 +49,15 @@ pub fn set(random: &mut Random, case: &mut Case, level: u8) {
         streaming: true,
         za_on: true,
         memory_address: 0,
+        stack_check: random.chance(1, 2),
     };
 }
 
 /// Makes the vector length, the level or both wrong. The buffers keep the
-/// lengths that they have.
+/// lengths that they have. The level alone has the largest share: with it the
+/// case has a line in the table, and there are many lines.
 pub fn spoil(random: &mut Random, case: &mut Case) {
-    let which = random.below(5);
+    let which = random.below(7);
     if which < 3 {
         case.settings.vector_bytes = other_length(random);
         resize(random, case);

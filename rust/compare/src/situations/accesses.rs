@@ -2,7 +2,7 @@
 //! and the two meanings of number 31.
 
 use super::Situations;
-use crate::names::{self, Answer, Named, ACCESSES, FAULT, WAYS};
+use crate::names::{self, on_or_off, Answer, Named, ACCESSES, FAULT, WAYS};
 use crate::rows::Drawn;
 use crate::view::View;
 use second::flat::Flat;
@@ -12,6 +12,14 @@ use sme_move::{Kind, Refusal};
 const ADDRESSES: u128 = 1 << 64;
 
 const MISALIGNED: Answer = Err(Refusal::StackMisaligned);
+/// The answers that come before 6, with the stack check on or off.
+const EARLIER: [Answer; 5] = [
+    Err(Refusal::BadSettings),
+    Err(Refusal::BadLengths),
+    Err(Refusal::Undecodable),
+    Err(Refusal::StreamingOff),
+    Err(Refusal::ZaOff),
+];
 
 /// A test of a case that has the load or store in question.
 type Holds = fn(&View) -> bool;
@@ -112,6 +120,10 @@ fn name_sized(all: &mut Situations, name: &str, kind: Kind, m: u8) {
         });
     }
     all.name(format!("{name}, 6"), move |v| own(v, MISALIGNED));
+    for (what, answer) in [("done", Ok(())), ("fault", Err(FAULT))] {
+        let name = format!("{name}, {what}, by a misaligned stack pointer");
+        all.name(name, move |v| own(v, answer) && v.stack_misaligned());
+    }
     for (what, holds) in FAULTS {
         all.name(format!("{name}, fault, {what}"), move |v| {
             own(v, Err(FAULT)) && holds(v)
@@ -138,20 +150,39 @@ fn over_the_last_address(v: &View) -> bool {
     })
 }
 
+/// The stack pointer as base, aligned or not, with an active element or none,
+/// with the stack check on and off.
 fn name_stack_pointer(all: &mut Situations, name: &str, kind: Kind) {
-    let kinds = [
-        ("aligned, an active element, done", true, true, Ok(())),
-        ("aligned, an active element, fault", true, true, Err(FAULT)),
-        ("aligned, no active element, done", true, false, Ok(())),
-        ("not aligned, an active element, 6", false, true, MISALIGNED),
-        ("not aligned, no active element, done", false, false, Ok(())),
-    ];
-    for (what, aligned, active, answer) in kinds {
-        all.name(format!("{name}, stack pointer {what}"), move |v| {
-            let own = |own: Flat| own.kind() == kind && own.base == 31;
-            let active = v.active.is_empty() != active;
-            v.access().is_some_and(own) && v.aligned() == aligned && active && v.answered(answer)
-        });
+    for stack_check in [true, false] {
+        for (alignment, aligned) in [("aligned", true), ("not aligned", false)] {
+            for (elements, active) in [("an active element", true), ("no active element", false)] {
+                let stack = on_or_off(stack_check);
+                let what = format!("{alignment}, {elements}, stack check {stack}");
+                for answer in answers_on_stack(stack_check, aligned, active) {
+                    let number = names::number(answer);
+                    let name = format!("{name}, stack pointer {what}, {number}");
+                    all.name(name, move |v| {
+                        v.access().is_some_and(|own| own.kind() == kind)
+                            && v.base() == Some(31)
+                            && v.case.settings.stack_check == stack_check
+                            && v.aligned() == aligned
+                            && v.active.is_empty() != active
+                            && v.answered(answer)
+                    });
+                }
+            }
+        }
+    }
+}
+
+/// What such a load or store can be answered. Where 6 is at stake those before
+/// it are to be met too: a check that is made too early would hide them.
+fn answers_on_stack(stack_check: bool, aligned: bool, active: bool) -> Vec<Answer> {
+    match (active, aligned) {
+        (false, _) => vec![Ok(())],
+        (true, true) => vec![Ok(()), Err(FAULT)],
+        (true, false) if stack_check => [&EARLIER[..], &[MISALIGNED]].concat(),
+        (true, false) => [&EARLIER[..], &[Ok(()), Err(FAULT)]].concat(),
     }
 }
 

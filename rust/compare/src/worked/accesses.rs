@@ -1,8 +1,10 @@
 //! Worked examples of loads and stores: the ends of memory, the end of all
 //! addresses, which byte answer 7 tells, what becomes zero, and long memory.
 
+use super::stack_check::{CHECKED, UNCHECKED};
 use super::{bytes, case, Worked};
 use crate::case::Case;
+use crate::names::on_or_off;
 use sme_move::Refusal;
 
 /// What makes a load a store.
@@ -10,22 +12,22 @@ const STORE: u32 = 0x0020_0000;
 
 /// A load of slice 0 of tile 0 if not said otherwise, which is also run as
 /// a store.
-struct Example {
-    name: &'static str,
-    load: u32,
-    vector_bytes: usize,
+pub struct Example {
+    pub name: &'static str,
+    pub load: u32,
+    pub vector_bytes: usize,
     /// Memory's address and length.
-    memory: (u64, usize),
+    pub memory: (u64, usize),
     /// Register 1, or the stack pointer where that is the base.
-    base: u64,
+    pub base: u64,
     /// Register 2.
-    offset: u64,
+    pub offset: u64,
     /// The bits of predicate 0.
-    bits: &'static [usize],
-    expected: Expected,
+    pub bits: &'static [usize],
+    pub expected: Expected,
 }
 
-enum Expected {
+pub enum Expected {
     Refused(Refusal),
     /// The bytes of an element; where each active one is, in ZA and in
     /// memory; and where in ZA the others are, which a load zeroes.
@@ -37,7 +39,7 @@ enum Expected {
 }
 
 /// Refused for the byte at this address.
-const fn outside(address: u64) -> Expected {
+pub const fn outside(address: u64) -> Expected {
     Expected::Refused(Refusal::OutsideMemory { address })
 }
 
@@ -45,7 +47,9 @@ const MINUS_4: u64 = u64::MAX - 3;
 const MINUS_12: u64 = u64::MAX - 11;
 const MINUS_64: u64 = u64::MAX - 63;
 
-const EXAMPLES: [Example; 15] = [
+/// With the stack check on and off: none has a stack pointer that it would
+/// refuse.
+const EXAMPLES: [Example; 14] = [
     // Element 2 of four is at 203E, and memory ends at 2040.
     Example {
         name: "an element over the end of memory",
@@ -166,16 +170,6 @@ const EXAMPLES: [Example; 15] = [
         },
     },
     Example {
-        name: "the last element active, stack pointer not aligned",
-        load: 0xE09F_03E0,
-        vector_bytes: 16,
-        memory: (0x1000, 64),
-        base: 0x1008,
-        offset: 0,
-        bits: &[12],
-        expected: Expected::Refused(Refusal::StackMisaligned),
-    },
-    Example {
         name: "the stack pointer as base, aligned",
         load: 0xE09F_03E0,
         vector_bytes: 16,
@@ -235,7 +229,8 @@ const EXAMPLES: [Example; 15] = [
     },
 ];
 
-/// In memory of more bytes than 16 bits can count.
+/// In memory of more bytes than 16 bits can count, with the stack check on
+/// and off too.
 const LONG: [Example; 6] = [
     Example {
         name: "the middle of 1 MiB",
@@ -318,9 +313,22 @@ const LONG: [Example; 6] = [
 ];
 
 pub fn list() -> Vec<Worked> {
-    let both = |example: &Example| [example.loaded(), example.stored()];
-    let mut all: Vec<Worked> = EXAMPLES.iter().chain(&LONG).flat_map(both).collect();
+    let mut all = with_stack_check(true, &CHECKED);
+    all.extend(with_stack_check(false, &UNCHECKED));
     all.extend(there_and_back());
+    all
+}
+
+/// The examples with the stack check in one position, those of this position
+/// alone among them.
+fn with_stack_check(on: bool, alone: &[Example]) -> Vec<Worked> {
+    let examples = EXAMPLES.iter().chain(&LONG).chain(alone);
+    let both = |example: &Example| [example.loaded(), example.stored()];
+    let mut all: Vec<Worked> = examples.flat_map(both).collect();
+    for worked in &mut all {
+        worked.case.settings.stack_check = on;
+        worked.name += &format!(", stack check {}", on_or_off(on));
+    }
     all
 }
 

@@ -2,6 +2,7 @@
 //! both programs are held.
 
 mod accesses;
+mod stack_check;
 
 use crate::case::{Case, Outcome};
 use crate::names::{self, Answer};
@@ -63,7 +64,7 @@ impl Worked {
     }
 }
 
-/// Level 3, both switches on, buffers of the right lengths whose bytes are
+/// Level 3, every switch on, buffers of the right lengths whose bytes are
 /// not zero, no memory, X all zero, and no predicate bit set.
 pub fn case(vector_bytes: usize, word: u32) -> Case {
     let mut case = Case::empty();

@@ -63,6 +63,7 @@ fn settings(random: &mut Random, abilities: Abilities) -> Settings {
         streaming: !random.chance(1, 60),
         za_on: !random.chance(1, 60),
         memory_address: if low { LOW_MEMORY } else { MEMORY },
+        stack_check: random.chance(1, 2),
     }
 }
 

@@ -22,10 +22,10 @@ pub fn hold(view: &View) -> bool {
     (!elsewhere || outside_at_once(view)) && inactive_zero(view)
 }
 
-/// Answer 6: base 31, at least one active element, and a stack pointer that is
-/// no multiple of 16.
+/// Answer 6: the stack check is on and refuses the stack pointer. With the
+/// check off the unit must do what the emulator does, which has none.
 pub fn stack_misaligned(view: &View) -> bool {
-    view.base() == Some(31) && !view.active.is_empty() && !view.aligned()
+    view.case.settings.stack_check && view.stack_misaligned()
 }
 
 /// Whether the emulator takes the access to be elsewhere. An element's number

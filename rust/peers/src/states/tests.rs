@@ -8,7 +8,7 @@ use super::told::difference;
 use super::Unit;
 use compare::case::{Case, Outcome};
 use compare::rows::encoding;
-use second::execute::Settings;
+use second::execute::{Mistake, Settings};
 use second::inputs::random::Random;
 use sme_move::Refusal;
 
@@ -31,6 +31,7 @@ fn case(word: u32, active: u16, start: u64) -> Case {
         streaming: true,
         za_on: true,
         memory_address: MEMORY,
+        stack_check: true,
     };
     case.x = (0..32).map(|_| random.bits()).collect();
     case.x[1] = start;
@@ -216,6 +217,22 @@ fn without_a_stack_check_the_access_is_done() {
     unchecked.za = reply.za.clone();
     let found = judge(&case, Unit::Archive, &unchecked, &reply);
     assert_eq!(found, Verdict::Differ);
+}
+
+/// With the switch of the unit's own check off that is no fault, and a unit
+/// that checks all the same is wrong.
+#[test]
+fn with_the_stack_check_off_the_access_is_done_by_both() {
+    let mut case = case(LOAD_BY_STACK, 0xFFFF, MEMORY + 8);
+    case.settings.stack_check = false;
+    let own = run(&case);
+    assert_eq!(own.answer, 0);
+    let reply = reply_like(&own);
+    assert_eq!(verdict(&case, &reply), Verdict::Agree);
+    let checked = Unit::Wrong(Mistake::StackSwitchIgnored);
+    let mut own = Outcome::default();
+    checked.execute(&case, &mut own);
+    assert_eq!(judge(&case, checked, &own, &reply), Verdict::Differ);
 }
 
 #[test]

@@ -40,13 +40,14 @@ fn operation(word: u32) -> String {
 fn settings(case: &Case) -> String {
     let settings = &case.settings;
     format!(
-        "vector length {}, level {}, streaming {}, ZA {}, {} bytes of memory from {:016X} on",
+        "vector length {}, level {}, streaming {}, ZA {}, {} bytes of memory from {:016X} on, stack check {}",
         settings.vector_bytes,
         settings.level,
         settings.streaming,
         settings.za_on,
         case.memory.len(),
-        settings.memory_address
+        settings.memory_address,
+        settings.stack_check
     )
 }
 

@@ -10,6 +10,7 @@ pub struct Draft {
     streaming: Option<bool>,
     array: Option<bool>,
     memory_address: Option<u64>,
+    stack_check: Option<bool>,
 }
 
 impl Draft {
@@ -20,6 +21,7 @@ impl Draft {
             "level" => once(&mut self.level, name, level(value)?),
             "streaming" => once(&mut self.streaming, name, switch(name, value)?),
             "array" => once(&mut self.array, "array on or off", switch(name, value)?),
+            "stack-check" => once(&mut self.stack_check, name, switch(name, value)?),
             _ => once(&mut self.memory_address, name, hexadecimal(value)?),
         }
     }
@@ -33,7 +35,8 @@ impl Draft {
         Ok(settings
             .with_streaming(self.streaming.unwrap_or(true))
             .with_za(self.array.unwrap_or(true))
-            .with_memory_address(self.memory_address.unwrap_or(0)))
+            .with_memory_address(self.memory_address.unwrap_or(0))
+            .with_stack_check(self.stack_check.unwrap_or(true)))
     }
 }
 

@@ -15,9 +15,9 @@ use std::path::Path;
 const MAX_MEMORY: usize = 64 << 20;
 const MAX_WORDS: usize = 1 << 20;
 
-const STATEMENTS: &str = "vector-bytes, level, streaming, array, memory-address, register, \
-                          vector, predicate, array-file, memory, memory-file, word, words-file, \
-                          expect";
+const STATEMENTS: &str = "vector-bytes, level, streaming, array, memory-address, stack-check, \
+                          register, vector, predicate, array-file, memory, memory-file, word, \
+                          words-file, expect";
 
 struct Parser<'a> {
     draft: Draft,
@@ -68,7 +68,7 @@ impl Parser<'_> {
             return Ok(());
         };
         match (name, values) {
-            ("vector-bytes" | "level" | "streaming" | "memory-address", _)
+            ("vector-bytes" | "level" | "streaming" | "memory-address" | "stack-check", _)
             | ("array", ["on" | "off", ..]) => self.setting(name, values),
             ("register", _) => self.register(values),
             ("vector", _) => self.content(Place::Vector, values),

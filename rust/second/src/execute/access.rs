@@ -1,5 +1,5 @@
 //! What loads and stores share: the addresses of their elements, and answers
-//! 6 and 7 (document 01, sections 5 and 6, as request 2 amends them).
+//! 6 and 7 (document 01, sections 5 and 6, as requests 2 and 4 amend them).
 
 use super::state::State;
 use super::Mistake;
@@ -28,12 +28,16 @@ pub fn active(state: &State, operation: &Flat, e: usize) -> bool {
     state.active(operation.predicate, e, element_bytes(operation))
 }
 
-/// Answer 6. Without an active element it is never given; source 001 leaves
-/// that open and section 6 chooses.
+/// Answer 6. With the stack check off it is never given (request 4), and
+/// without an active element neither; source 001 leaves the latter open and
+/// section 6 chooses.
 pub fn check_stack_pointer(state: &State, operation: &Flat) -> Result<(), Refusal> {
+    let checked = state
+        .mistake
+        .stack_check_seen(state.stack_check, operation.kind);
     let any_active = (0..elements(state, operation)).any(|e| active(state, operation, e));
     let aligned = state.x(THIRTY_ONE).is_multiple_of(ALIGNMENT);
-    if operation.base == THIRTY_ONE && any_active && !aligned {
+    if checked && operation.base == THIRTY_ONE && any_active && !aligned {
         return Err(Refusal::StackPointer);
     }
     Ok(())

@@ -1,8 +1,11 @@
 //! Deliberate mistakes: those that document 01, section 8 warns of, three
-//! that the words of request 1 invite, six that those of request 2 do, and
-//! four that show only in long memory.
+//! that the words of request 1 invite, six that those of request 2 do, four
+//! that show only in long memory, and three that the switch of request 4
+//! invites.
 //!
 //! Only the comparison runs them, to show that it would notice each.
+
+use crate::flat;
 
 /// The longest memory that the mistake about long memory lets pass.
 const LONGEST_ALLOWED: usize = 4096;
@@ -64,11 +67,18 @@ pub enum Mistake {
     /// A byte of memory is found, and then looked for at the low 16 bits of
     /// its number.
     MemoryOffsetIn16Bits,
+    /// The switch of the stack check is not looked at: the check is on.
+    StackSwitchIgnored,
+    /// The switch of the stack check is read the wrong way round.
+    StackSwitchInverted,
+    /// The switch of the stack check is looked at for stores; a load is
+    /// always checked.
+    StackSwitchForStoresOnly,
 }
 
 impl Mistake {
     /// Every mistake, with the name that the command line has for it.
-    pub const NAMED: [(&'static str, Mistake); 20] = [
+    pub const NAMED: [(&'static str, Mistake); 23] = [
         ("TileAsBlock", Mistake::TileAsBlock),
         ("SliceModuloVectorLength", Mistake::SliceModuloVectorLength),
         ("BaseThirtyOneAsZero", Mistake::BaseThirtyOneAsZero),
@@ -92,6 +102,12 @@ impl Mistake {
         ("FarBytesOutside", Mistake::FarBytesOutside),
         ("MemoryLengthIn16Bits", Mistake::MemoryLengthIn16Bits),
         ("MemoryOffsetIn16Bits", Mistake::MemoryOffsetIn16Bits),
+        ("StackSwitchIgnored", Mistake::StackSwitchIgnored),
+        ("StackSwitchInverted", Mistake::StackSwitchInverted),
+        (
+            "StackSwitchForStoresOnly",
+            Mistake::StackSwitchForStoresOnly,
+        ),
     ];
 
     /// The mistake of that name.
@@ -133,6 +149,17 @@ impl Mistake {
         match self {
             Mistake::MemoryOffsetIn16Bits => offset % IN_16_BITS,
             _ => offset,
+        }
+    }
+
+    /// Whether an access of this kind finds the stack check on: as the switch
+    /// stands, but for three mistakes.
+    pub fn stack_check_seen(self, on: bool, kind: u8) -> bool {
+        match self {
+            Mistake::StackSwitchIgnored => true,
+            Mistake::StackSwitchInverted => !on,
+            Mistake::StackSwitchForStoresOnly => on || kind == flat::LOAD,
+            _ => on,
         }
     }
 }

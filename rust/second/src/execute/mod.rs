@@ -1,5 +1,6 @@
-//! Execution of one word (document 01, sections 2, 3, 5 and 6, with the
-//! pages of the instructions that requests 1 and 2 added).
+//! Execution of one word (document 01, sections 2, 3, 5 and 6, as request 4
+//! amends 2 and 6, with the pages of the instructions that requests 1 and 2
+//! added).
 //!
 //! Written element by element in the manner of Arm's pseudocode: a slice is
 //! read into a temporary vector and written back from one. Every check

@@ -1,4 +1,4 @@
-//! The settings of a call (document 01, section 2).
+//! The settings of a call (document 01, section 2, as request 4 amends it).
 
 /// The vector lengths that there are, in bytes.
 pub const VECTOR_LENGTHS: [u64; 5] = [16, 32, 64, 128, 256];
@@ -15,4 +15,7 @@ pub struct Settings {
     pub za_on: bool,
     /// The address of memory's first byte.
     pub memory_address: u64,
+    /// Whether a misaligned stack pointer is refused as the base of a load or
+    /// store. With the check off it is a base like any other.
+    pub stack_check: bool,
 }

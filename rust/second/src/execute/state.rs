@@ -11,6 +11,9 @@ use crate::refusal::Refusal;
 pub struct State<'a> {
     pub mistake: Mistake,
     pub vector_bytes: usize,
+    /// The position of the switch of the stack check, as the settings have
+    /// it.
+    pub stack_check: bool,
     pub memory: Memory<'a>,
     x: &'a [u64],
     z: &'a mut [u8],
@@ -31,6 +34,7 @@ impl<'a> State<'a> {
         State {
             mistake,
             vector_bytes: settings.vector_bytes as usize,
+            stack_check: settings.stack_check,
             memory: Memory::new(mistake, settings.memory_address, buffers.memory),
             x: buffers.x,
             z: buffers.z,

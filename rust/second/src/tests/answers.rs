@@ -119,15 +119,19 @@ fn memory_ends_at_the_last_address() {
 }
 
 /// The lowest number that applies: from the highest cause down, each new
-/// one takes over.
+/// one takes over. With the stack check off a misaligned stack pointer is no
+/// cause.
 #[test]
 fn the_lowest_number_is_given() {
-    for word in ACCESSES {
+    let off = ACCESSES.map(|word| (word, false, 7, (1 << 40) + 8));
+    let on = ACCESSES.map(|word| (word, true, 6, 0));
+    for (word, stack_check, misaligned, address) in off.into_iter().chain(on) {
         let mut machine = good(16);
+        machine.settings.stack_check = stack_check;
         machine.x[31] = 1 << 40;
         machine.expect_refused(word, 7, 1 << 40);
         machine.x[31] += 8;
-        machine.expect_refused(word, 6, 0);
+        machine.expect_refused(word, misaligned, address);
         machine.settings.za_on = false;
         machine.expect_refused(word, 5, 0);
         machine.settings.streaming = false;

@@ -120,7 +120,8 @@ fn example_8_two_vectors() {
 }
 
 /// Example 9: a stack pointer that is not a multiple of 16 matters only
-/// with an active element.
+/// with an active element, and only with the stack check on. That it is a
+/// base like any other with the check off is in `stack_check`.
 #[test]
 fn example_9_the_stack_pointer() {
     for element in [0, 7, 15] {
@@ -130,10 +131,13 @@ fn example_9_the_stack_pointer() {
         machine.set_predicate(0, [element]);
         machine.expect_refused(0xE03F_03E0, 6, 0);
     }
-    let mut machine = Machine::new(16);
-    machine.x[31] = 0x1008;
-    let wanted = machine.clone();
-    machine.expect_done(0xE03F_03E0, &wanted);
+    for stack_check in [true, false] {
+        let mut machine = Machine::new(16);
+        machine.settings.stack_check = stack_check;
+        machine.x[31] = 0x1008;
+        let wanted = machine.clone();
+        machine.expect_done(0xE03F_03E0, &wanted);
+    }
 }
 
 /// Example 10: the addresses wrap at 2^64; elements 0 to 3 are outside.
@@ -152,7 +156,7 @@ fn example_10_addresses_wrap() {
     part.expect_done(0xE022_0020, &wanted);
 }
 
-/// Example 12: with both switches off the lower number is given.
+/// Example 12: with streaming and ZA off the lower number is given.
 #[test]
 fn example_12_both_switches_off() {
     let mut machine = Machine::new(16);

@@ -21,8 +21,8 @@ fn bytes(start: usize, length: usize) -> Vec<u8> {
 }
 
 impl Machine {
-    /// Level 3, both switches on, memory of 64 bytes at address 0, no
-    /// active element in any predicate.
+    /// Level 3, every switch on, memory of 64 bytes at address 0, no active
+    /// element in any predicate.
     pub fn new(vector_bytes: usize) -> Machine {
         Machine {
             settings: Settings {
@@ -31,6 +31,7 @@ impl Machine {
                 streaming: true,
                 za_on: true,
                 memory_address: 0,
+                stack_check: true,
             },
             x: (0..32)
                 .map(|number| 0xABCD_0123_4567_0000 + number)

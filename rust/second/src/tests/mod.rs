@@ -1,6 +1,6 @@
 //! Unit tests: words and their lists and lines, the worked examples of
-//! document 01 and of the added words, the order of the answers, tiles taken
-//! and given up, and the deliberate mistakes.
+//! document 01 and of the added words, the order of the answers, the switch
+//! of the stack check, tiles taken and given up, and the deliberate mistakes.
 
 mod access_mistakes;
 mod accesses;
@@ -17,4 +17,6 @@ mod machine;
 mod memory_mistakes;
 mod mistakes;
 mod slices;
+mod stack_check;
+mod stack_mistakes;
 mod words;

@@ -59,6 +59,7 @@ pub fn execute(settings: Settings, word: u32, buffers: Buffers<'_>) -> (u32, u64
         settings.streaming.into(),
         settings.za.into(),
         settings.memory_address,
+        (!settings.stack_check).into(),
     ];
     let answer = function(
         given.as_ptr(),

@@ -46,6 +46,7 @@ impl Machine {
                 streaming: true,
                 za_on: true,
                 memory_address: ADDRESS - vector_bytes as u64,
+                stack_check: true,
             },
             x: Placed::new(PLACE_OF_X, 32, INDEX),
             z: filled(PLACE_OF_Z, 32 * vector_bytes),

@@ -53,6 +53,18 @@ fn settings_are_checked() {
             "k:3: 'array on or off' is stated twice",
         ),
         (
+            "B;stack-check 1",
+            "k:2: 'stack-check' is on or off, not '1'",
+        ),
+        (
+            "B;stack-check on off",
+            "k:2: 'stack-check' takes one value, not 2",
+        ),
+        (
+            "B;stack-check on;stack-check on",
+            "k:3: 'stack-check' is stated twice",
+        ),
+        (
             "memory-address 0x10",
             "k:1: '0x10' has 'x' in it, which is no hexadecimal",
         ),
@@ -71,6 +83,14 @@ fn settings_come_first() {
             "k:3: 'level' is a setting, and settings come before",
         ),
         ("B;word C0000000;array off", "k:3: 'array' is a setting"),
+        (
+            "B;memory 00;stack-check off",
+            "k:3: 'stack-check' is a setting",
+        ),
+        (
+            "B;word C0000000;stack-check off",
+            "k:3: 'stack-check' is a setting",
+        ),
         ("level 3;register 1 2", "k:2: 'vector-bytes' is missing"),
         ("# nothing;", "k:1: 'vector-bytes' is missing"),
         ("", "k:1: 'vector-bytes' is missing"),
@@ -377,9 +397,23 @@ fn what_is_not_stated_has_its_default() {
     let script = parse("vector-bytes 32\nword C0000000\n").expect("a good script");
     let settings = script.settings;
     assert_eq!((settings.vector_bytes, settings.level), (32, 3));
-    assert!(settings.streaming && settings.za);
+    assert!(settings.streaming && settings.za && settings.stack_check);
     assert_eq!(settings.memory_address, 0);
     assert!(script.memory.is_empty());
+}
+
+/// The statement changes the one setting, before and after the others.
+#[test]
+fn the_stack_check_is_on_or_off_as_stated() {
+    let settings = |text: &str| parse(text).expect("a good script").settings;
+    let unstated = settings("vector-bytes 32\nword C0000000\n");
+    for (switch, on) in [("on", true), ("off", false)] {
+        let expected = unstated.with_stack_check(on);
+        let first = format!("stack-check {switch}\nvector-bytes 32\nword C0000000\n");
+        assert_eq!(settings(&first), expected);
+        let last = format!("vector-bytes 32\nstack-check {switch}\nword C0000000\n");
+        assert_eq!(settings(&last), expected);
+    }
 }
 
 #[test]
