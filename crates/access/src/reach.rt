@@ -62,7 +62,7 @@ fn is_stack_bad(
     if n <= first_active(p, pbase, size, 0, n) {
         return false;
     }
-    // The switch last: tested before, it costs loads and stores by other bases some time.
+    // The switch last: tested before, it costs loads and stores by other bases a few instructions (docs/DECISIONS.md).
     check
 }
 

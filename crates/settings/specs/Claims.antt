@@ -62,8 +62,8 @@ pub record NoMachine (s : Settings) : Type 0 where
   pub check : checkNumber s ≡ 1
   pub length : isVectorLength (s .«vector_bytes») ≡ false
 
--- settings that a host gives as numbers: any can be given; a switch is off by 0 alone, and the stack check, of which the last number says whether it is off, is on by 0 alone; what is missing is as in new settings; too few or too many are
--- settings that no machine has
+-- settings that a host gives as numbers: any can be given; a switch is off by 0 alone, and the stack check, of which the last number says whether it is off, is
+-- on by 0 alone; what is missing is as in new settings; too few or too many are settings that no machine has
 pub record LentSettings : Type 0 where
   pub whole : (s : Settings) → settingsIn (numbersOf s) ≡ s
   pub off : (n : ℕ) → isOn n ≡ false → n ≡ 0
