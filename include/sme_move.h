@@ -8,13 +8,14 @@
  * No two of the arrays and buffers of one call may overlap. An empty memory and an empty array of settings, results or
  * tiles may be (NULL, 0); every other pointer must point to as many items as its length says, aligned for its type.
  *
- * Hosts call the wrappers in the second half, which take settings as a record made by sme_settings_new, and held tiles
- * as one made by sme_held_none. The archive's own functions take settings and results as arrays with a count. So a
- * later version that adds a setting or a result changes no function: a host's source stays as it is, and so does an
- * object file, whose machine then has the added setting as new settings have it. An object file made with this header
- * does not link with an archive that is older than the header.
+ * Hosts call the wrappers in the second half, which take settings as a record made by sme_settings_new (or
+ * sme_settings_within), and held tiles as one made by sme_held_none. The archive's own functions take settings and
+ * results as arrays with a count. So a later version that adds a setting or a result changes no function: the source of
+ * a host that makes its records so stays as it is, and so does an object file, whose machine then has the added setting
+ * as new settings have it. An object file made with this header does not link with an archive that is older than the
+ * header.
  *
- * Three things that a host needs to know of the machine, where B is the vector length in bytes and m the bytes of an
+ * Four things that a host needs to know of the machine, where B is the vector length in bytes and m the bytes of an
  * element:
  *
  * When an element is active. Element e of a vector is its bytes e*m to e*m + m-1. It is active under a predicate
@@ -29,6 +30,14 @@
  * Where a tile's slices lie in the array. Row s of tile t, its horizontal slice s, is vector s*m + t, whole. Element e
  * of column s, its vertical slice s, is bytes s*m to s*m + m-1 of vector e*m + t. So the rows of a tile are m vectors
  * apart.
+ *
+ * Where vectors start in the buffers. Buffers are laid out for vectors of L bytes, the largest vector length of the
+ * settings. It is B as a rule, and longer where a host keeps its buffers at one length and runs at a shorter one. The
+ * lengths of buffers and the places in them go by L, all else by B: vector register n starts at byte n*L of Z,
+ * predicate n at byte n*(L/8) of P, and vector n of the array at byte n*L of ZA. Of each vector the machine has the
+ * first B bytes, of each predicate the first B/8, and of the array vectors 0 to B-1. No call writes a byte beyond
+ * these, and neither an answer nor a byte that is written depends on one. So the same buffers serve every B up to L,
+ * and nothing in them has to be moved when B changes.
  */
 #ifndef SME_MOVE_H
 #define SME_MOVE_H
@@ -39,7 +48,7 @@
 
 /* The version of this header; sme_version tells the archive's, and both as one number can be compared. */
 #define SME_MOVE_VERSION_MAJOR 0
-#define SME_MOVE_VERSION_MINOR 6
+#define SME_MOVE_VERSION_MINOR 7
 #define SME_MOVE_VERSION (65536 * SME_MOVE_VERSION_MAJOR + SME_MOVE_VERSION_MINOR)
 
 #ifdef __cplusplus
@@ -54,11 +63,11 @@ enum sme_answer {
     /* done */
     SME_DONE = 0,
     /*
-     * the vector length is not 16, 32, 64, 128 or 256 bytes, or the level is above 3; also where an array of settings
-     * has too few or too many numbers
+     * the vector length or the largest vector length is not 16, 32, 64, 128 or 256 bytes, the largest is below the
+     * other, or the level is above 3; also where an array of settings has too few or too many numbers
      */
     SME_BAD_SETTINGS = 1,
-    /* a buffer has not the length that the vector length fixes, or memory ends above 2^64 */
+    /* a buffer has not the length that the largest vector length fixes, or memory ends above 2^64 */
     SME_BAD_LENGTHS = 2,
     /* the word is no instruction of this level */
     SME_UNDECODABLE = 3,
@@ -88,7 +97,7 @@ enum sme_answer {
     SME_BAD_HELD = 16
 };
 
-/* The limits of the vector length in bytes, which is a power of two, and the highest feature level. */
+/* The limits of both vector lengths in bytes, each of which is a power of two, and the highest feature level. */
 #define SME_MIN_VECTOR_BYTES 16
 #define SME_MAX_VECTOR_BYTES 256
 #define SME_MAX_LEVEL 3
@@ -96,11 +105,11 @@ enum sme_answer {
 /* How many tiles can be held at once: of more than sixteen, two share a byte. */
 #define SME_MAX_HELD 16
 
-/* The lengths that a vector length fixes: X in numbers, the others in bytes. */
+/* The lengths that the largest vector length fixes: X in numbers, the others in bytes. */
 #define SME_X_COUNT 32
-#define SME_Z_BYTES(vector_bytes) (32 * (size_t)(vector_bytes))
-#define SME_P_BYTES(vector_bytes) (16 * ((size_t)(vector_bytes) / 8))
-#define SME_ZA_BYTES(vector_bytes) ((size_t)(vector_bytes) * (size_t)(vector_bytes))
+#define SME_Z_BYTES(largest_vector_bytes) (32 * (size_t)(largest_vector_bytes))
+#define SME_P_BYTES(largest_vector_bytes) (16 * ((size_t)(largest_vector_bytes) / 8))
+#define SME_ZA_BYTES(largest_vector_bytes) ((size_t)(largest_vector_bytes) * (size_t)(largest_vector_bytes))
 
 /*
  * An operation is eleven numbers; these are their places. What a kind does not have is 0: an array kind has no
@@ -165,9 +174,10 @@ enum sme_kind {
 
 /*
  * The settings of a machine as an array of numbers; these are their places. The first two must be given. Later ones
- * may be missing, from the end on, and then are as sme_settings_new has them, which is 0 for each; so a place that a
- * host of an earlier version leaves 0 is as if it were missing. Fewer than two numbers, or more than there are settings,
- * are settings that no machine has: every call then returns SME_BAD_SETTINGS.
+ * may be missing, from the end on, and then are as sme_settings_new has them: the largest vector length is B, each
+ * other one is 0. So a place that a host leaves 0 is as if it were missing, but for the largest vector length: a 0 that
+ * is given there is no vector length, and SME_BAD_SETTINGS is returned. Fewer than two numbers, or more than there are
+ * settings, are settings that no machine has: every call then returns SME_BAD_SETTINGS.
  */
 enum sme_setting {
     /* the streaming vector length in bytes, B: 16, 32, 64, 128 or 256 */
@@ -185,6 +195,8 @@ enum sme_setting {
      * multiple of 16 is a base like any other, and no call returns SME_STACK_MISALIGNED
      */
     SME_SETTING_STACK_CHECK_OFF,
+    /* the vector length in bytes that the buffers are laid out for: 16, 32, 64, 128 or 256, and not below B */
+    SME_SETTING_LARGEST_VECTOR_BYTES,
     /* how many settings this header knows */
     SME_SETTING_COUNT
 };
@@ -204,7 +216,7 @@ enum sme_result {
  * The version of the archive, as one number like SME_MOVE_VERSION. An archive has such a function for its own version
  * and for each before it whose hosts it serves, and none for a later one.
  */
-uint32_t sme_version_0_6(void);
+uint32_t sme_version_0_7(void);
 
 /*
  * Executes one instruction word.
@@ -212,10 +224,10 @@ uint32_t sme_version_0_6(void);
  * settings, settings_count
  *                 an array as of enum sme_setting
  * x, x_count      31 general-purpose registers and, as number 31, the stack pointer; read only
- * z, z_bytes      32 vector registers of B bytes, one after another
- * p, p_bytes      16 predicate registers of B/8 bytes, one after another, a bit for each byte of a
+ * z, z_bytes      32 vector registers of B bytes, which start L bytes apart, L being the largest vector length
+ * p, p_bytes      16 predicate registers of B/8 bytes, which start L/8 bytes apart, a bit for each byte of a
  *                 vector, lowest first; read only
- * za, za_bytes    the array: B vectors of B bytes, vector 0 first
+ * za, za_bytes    the array: B vectors of B bytes, which start L bytes apart, vector 0 first, and room for L such
  * memory, memory_bytes
  *                 memory of any length, from the settings' memory address on
  * results, results_count
@@ -223,7 +235,8 @@ uint32_t sme_version_0_6(void);
  * word            the instruction word
  *
  * Returns an enum sme_answer from 0 to 7. Only answer 0 changes z, za or memory. Only a store writes memory, and it
- * writes nothing else; a load writes za only, also where no element is active.
+ * writes nothing else; a load writes za only, also where no element is active. Bytes beyond B of a vector, and the
+ * vectors of za from B on, stay with every answer.
  */
 uint32_t sme_execute_word(const uint64_t *settings, size_t settings_count, const uint64_t *x, size_t x_count,
                           uint8_t *z, size_t z_bytes, const uint8_t *p, size_t p_bytes, uint8_t *za,
@@ -252,18 +265,20 @@ uint32_t sme_encode(const uint8_t *fields, uint32_t *word);
 
 /*
  * SME_DONE where a machine may have these settings, an array as of enum sme_setting, else SME_BAD_SETTINGS: by the
- * vector length, the level and the count.
+ * two vector lengths, the level and the count.
  */
 uint32_t sme_check(const uint64_t *settings, size_t settings_count);
 
 /*
- * The lengths that the vector length of these settings fixes. It and the count are checked, and no other setting.
+ * The lengths that the largest vector length of these settings fixes. The two vector lengths and the count are checked,
+ * and no other setting.
  *
  * settings, settings_count
  *          an array as of enum sme_setting
  * lengths  four numbers, written with answer 0 only: X in numbers, Z, P and ZA in bytes
  *
- * Returns SME_DONE, or SME_BAD_SETTINGS for a vector length that is not allowed, or too few or too many settings.
+ * Returns SME_DONE, or SME_BAD_SETTINGS for a vector length that is not allowed, a largest one that is below the other,
+ * or too few or too many settings.
  */
 uint32_t sme_measure(const uint64_t *settings, size_t settings_count, uint64_t *lengths);
 
@@ -310,8 +325,8 @@ uint32_t sme_give_up_tile(uint64_t *tiles, size_t tiles_count, size_t *count, ui
 #endif
 
 /*
- * The settings of a machine. Make it with sme_settings_new, which knows every member, and change switches and memory
- * address after; for another vector length or level make new settings.
+ * The settings of a machine. Make it with sme_settings_new or sme_settings_within, which know every member, and change
+ * switches and memory address after; for other vector lengths or another level make new settings.
  */
 typedef struct sme_settings {
     uint64_t vector_bytes;
@@ -321,6 +336,11 @@ typedef struct sme_settings {
     uint64_t memory_address;
     /* whether the stack check is off; an initialiser that does not name this, as of an earlier version, leaves it on */
     bool stack_check_off;
+    /*
+     * the vector length in bytes that the buffers are laid out for; an initialiser that does not name this, as of an
+     * earlier version, leaves it 0, which is SME_BAD_SETTINGS
+     */
+    uint64_t largest_vector_bytes;
 } sme_settings;
 
 /* The buffers of one call. An empty memory may be (NULL, 0). */
@@ -349,7 +369,7 @@ typedef struct sme_held {
 /* The version of the archive that the host is linked with. */
 static inline uint32_t sme_version(void)
 {
-    return sme_version_0_6();
+    return sme_version_0_7();
 }
 
 /* Whether an archive of that version is no older than this header. One that a host is linked with always is. */
@@ -368,14 +388,15 @@ static inline bool sme_version_serves(uint32_t archive)
 __attribute__((retain))
 #endif
 #endif
-__attribute__((used)) static uint32_t (*const sme_version_needed)(void) = sme_version_0_6;
+__attribute__((used)) static uint32_t (*const sme_version_needed)(void) = sme_version_0_7;
 #endif
 
 /*
- * Settings of this vector length and level, with streaming and the array off, memory at address 0 and the stack check
- * on. They are not checked here: sme_settings_check does, and so does execution.
+ * Settings of this vector length and level for a machine whose buffers are laid out for vectors of the largest length,
+ * with streaming and the array off, memory at address 0 and the stack check on. They are not checked here:
+ * sme_settings_check does, and so does execution.
  */
-static inline sme_settings sme_settings_new(uint64_t vector_bytes, uint64_t level)
+static inline sme_settings sme_settings_within(uint64_t vector_bytes, uint64_t largest_vector_bytes, uint64_t level)
 {
     sme_settings settings;
     settings.vector_bytes = vector_bytes;
@@ -384,7 +405,14 @@ static inline sme_settings sme_settings_new(uint64_t vector_bytes, uint64_t leve
     settings.za_on = false;
     settings.memory_address = 0;
     settings.stack_check_off = false;
+    settings.largest_vector_bytes = largest_vector_bytes;
     return settings;
+}
+
+/* The same for a machine whose buffers are laid out for vectors of this length. */
+static inline sme_settings sme_settings_new(uint64_t vector_bytes, uint64_t level)
+{
+    return sme_settings_within(vector_bytes, vector_bytes, level);
 }
 
 /* The settings as the array that the archive's functions take. */
@@ -396,6 +424,7 @@ static inline void sme_settings_give(sme_settings settings, uint64_t given[SME_S
     given[SME_SETTING_ZA_ON] = settings.za_on;
     given[SME_SETTING_MEMORY_ADDRESS] = settings.memory_address;
     given[SME_SETTING_STACK_CHECK_OFF] = settings.stack_check_off;
+    given[SME_SETTING_LARGEST_VECTOR_BYTES] = settings.largest_vector_bytes;
 }
 
 /* The same settings with one changed. */
@@ -431,7 +460,7 @@ static inline const char *sme_answer_text(uint32_t answer)
     case SME_DONE:
         return "done";
     case SME_BAD_SETTINGS:
-        return "the vector length or the level is not allowed";
+        return "a vector length or the level is not allowed";
     case SME_BAD_LENGTHS:
         return "a buffer has the wrong length, or memory ends above 2^64";
     case SME_UNDECODABLE:
@@ -464,13 +493,14 @@ static inline uint32_t sme_settings_check(sme_settings settings)
 }
 
 /*
- * New settings that are checked: SME_DONE with those of sme_settings_new in settings, or SME_BAD_SETTINGS with the
- * refused ones, which are the shortest vectors and level 0.
+ * New settings that are checked: SME_DONE with those of sme_settings_within in settings, or SME_BAD_SETTINGS with the
+ * refused ones, which are the shortest vectors, buffers that are laid out for these, and level 0.
  */
-static inline uint32_t sme_settings_make(uint64_t vector_bytes, uint64_t level, sme_settings *settings)
+static inline uint32_t sme_settings_make_within(uint64_t vector_bytes, uint64_t largest_vector_bytes, uint64_t level,
+                                                sme_settings *settings)
 {
     uint32_t answer;
-    *settings = sme_settings_new(vector_bytes, level);
+    *settings = sme_settings_within(vector_bytes, largest_vector_bytes, level);
     answer = sme_settings_check(*settings);
     if (answer != SME_DONE) {
         *settings = sme_settings_new(SME_MIN_VECTOR_BYTES, 0);
@@ -478,7 +508,13 @@ static inline uint32_t sme_settings_make(uint64_t vector_bytes, uint64_t level, 
     return answer;
 }
 
-/* sme_measure for these settings, of which the vector length alone is checked. */
+/* The same for a machine whose buffers are laid out for vectors of this length. */
+static inline uint32_t sme_settings_make(uint64_t vector_bytes, uint64_t level, sme_settings *settings)
+{
+    return sme_settings_make_within(vector_bytes, vector_bytes, level, settings);
+}
+
+/* sme_measure for these settings, of which the two vector lengths alone are checked. */
 static inline uint32_t sme_settings_lengths(sme_settings settings, uint64_t *lengths)
 {
     uint64_t given[SME_SETTING_COUNT];
@@ -527,9 +563,9 @@ static inline uint32_t sme_held_give_up(sme_held *held, uint64_t element_bytes, 
 }
 
 /*
- * What the archive had before version 0.5, for source that calls it: one parameter for each setting, and the address
- * as a place of its own. An object file that was made with the header of that time and calls one of these does not link
- * with this archive.
+ * What the archive had before version 0.5, for source that calls it: one parameter for each setting of that time, the
+ * others being as sme_settings_new has them, and the address as a place of its own. An object file that was made with
+ * the header of that time and calls one of these does not link with this archive.
  */
 static inline uint32_t sme_execute(uint64_t vector_bytes, uint64_t level, bool streaming, bool za_on,
                                    uint64_t memory_address, uint32_t word, const uint64_t *x, size_t x_count,

@@ -29,10 +29,10 @@ run() {
     echo "$1: as stored"
 }
 
-gcc -std=c11 -Wall -Wextra -Werror -pedantic -Iinclude examples/c/tiles.c "$archive" -o "$out/tiles"
-run examples/c/tiles.c examples/tiles.stdout "$out/tiles"
-gcc -std=c11 -Wall -Wextra -Werror -pedantic -Iinclude examples/c/transpose.c "$archive" -o "$out/transpose"
-run examples/c/transpose.c examples/transpose.stdout "$out/transpose"
+for host in long_buffers tiles transpose; do
+    gcc -std=c11 -Wall -Wextra -Werror -pedantic -Iinclude "examples/c/$host.c" "$archive" -o "$out/$host"
+    run "examples/c/$host.c" "examples/$host.stdout" "$out/$host"
+done
 run examples/rust/transpose.rs examples/transpose.stdout cargo run "${cargo[@]}" -p sme_move --example transpose
 
 shopt -s nullglob

@@ -67,7 +67,9 @@ link "$wrong/unit" -Wl,--wrap=sme_execute_word "$wrong/execute.o" "${right[@]}"
 WRONG=None "$wrong/unit" >"$out/told"
 for mistake in XIn16Bits XIn32Bits XBytesIn16Bits XBytesIn32Bits ZIn16Bits ZIn32Bits PIn16Bits PIn32Bits ZaIn16Bits \
     ZaIn32Bits MemoryLengthIn16Bits MemoryLengthIn32Bits MemoryOffsetIn16Bits MemoryOffsetIn32Bits EndOffsetIn16Bits \
-    EndOffsetIn32Bits StoreOffsetIn16Bits StoreOffsetIn32Bits StoreTwiceIn16Bits StoreTwiceIn32Bits MemoryEndIn32Bits LongMemoryRefused; do
+    EndOffsetIn32Bits StoreOffsetIn16Bits StoreOffsetIn32Bits StoreTwiceIn16Bits StoreTwiceIn32Bits MemoryEndIn32Bits LongMemoryRefused \
+    LargestMissing LargestMissingIfZero LargestIn16Bits LargestIn32Bits LargestBelowPasses PredicatesClose PredicatesLong \
+    ClearsBeyondZ ClearsBeyondZa ClearsZaFromB; do
     must_notice "$mistake" env WRONG="$mistake" "$wrong/unit"
 done
 
@@ -77,6 +79,15 @@ wrong_header WithStreamingIgnoresArgument wrapper_tests 's/settings\.streaming =
 wrong_header WithStackCheckInverted wrapper_tests 's/settings\.stack_check_off = !on;/settings.stack_check_off = on;/'
 wrong_header GivesStackCheckInverted wrapper_tests 's/= settings\.stack_check_off;/= !settings.stack_check_off;/'
 wrong_header StackCheckOffWhenMade settings_tests 's/settings\.stack_check_off = false;/settings.stack_check_off = true;/'
+wrong_header WithinIgnoresLargest wrapper_tests 's/settings\.largest_vector_bytes = largest_vector_bytes;/settings.largest_vector_bytes = vector_bytes, (void)largest_vector_bytes;/'
+wrong_header NewHasNoLargest wrapper_tests 's/sme_settings_within(vector_bytes, vector_bytes, level)/sme_settings_within(vector_bytes, 0, level)/'
+wrong_header NewHasTheLongest wrapper_tests 's/sme_settings_within(vector_bytes, vector_bytes, level)/sme_settings_within(vector_bytes, SME_MAX_VECTOR_BYTES, level)/'
+wrong_header WithStreamingForgetsLargest wrapper_tests 's/settings\.streaming = on;/& settings.largest_vector_bytes = settings.vector_bytes;/'
+wrong_header GivesLargestAsVectorLength wrapper_tests 's/= settings\.largest_vector_bytes;/= settings.vector_bytes;/'
+wrong_header GivesVectorLengthAsLargest wrapper_tests 's/= settings\.vector_bytes;/= settings.largest_vector_bytes;/'
+wrong_header MakeWithinIgnoresLargest settings_tests 's/sme_settings_within(vector_bytes, largest_vector_bytes, level);/sme_settings_within(vector_bytes, vector_bytes, level), (void)largest_vector_bytes;/'
+wrong_header MakeWithinKeepsRefused settings_tests 's/sme_settings_new(SME_MIN_VECTOR_BYTES, 0)/sme_settings_within(SME_MIN_VECTOR_BYTES, largest_vector_bytes, 0)/'
+wrong_header MakeHasTheLongest settings_tests 's/sme_settings_make_within(vector_bytes, vector_bytes, level, settings)/sme_settings_make_within(vector_bytes, SME_MAX_VECTOR_BYTES, level, settings)/'
 wrong_header WithMemoryAddressSetsLevel wrapper_tests 's/settings\.memory_address = address;/& settings.level = SME_MAX_LEVEL;/'
 wrong_header NewIgnoresVectorLength wrapper_tests 's/settings\.vector_bytes = vector_bytes;/settings.vector_bytes = 16, (void)vector_bytes;/'
 wrong_header GivesStreamingAsZa wrapper_tests 's/given\[SME_SETTING_ZA_ON\] = settings\.za_on;/given[SME_SETTING_ZA_ON] = settings.streaming;/'

@@ -22,9 +22,9 @@ access access_at(size_t number)
     return how;
 }
 
-machine machine_at(uint64_t b, size_t memory_bytes, uint64_t address)
+machine machine_at(uint64_t b, uint64_t apart, size_t memory_bytes, uint64_t address)
 {
-    machine made = machine_new(b, memory_bytes);
+    machine made = machine_within(b, apart, memory_bytes);
     set_x(&made, 12, INDEX);
     set_x(&made, 1, address);
     set_x(&made, 2, 0);
@@ -52,5 +52,5 @@ size_t place(const machine *own, const access *how, size_t e)
 {
     size_t slice = INDEX % elements(own, how);
     size_t row = how->vertical ? e : slice, column = how->vertical ? slice : e;
-    return (row * how->m + how->m - 1) * own->settings.vector_bytes + column * how->m;
+    return (row * how->m + how->m - 1) * own->settings.largest_vector_bytes + column * how->m;
 }

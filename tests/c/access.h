@@ -16,8 +16,8 @@ enum { ACCESSES = 20 };
 
 access access_at(size_t number);
 
-/* A machine on which element 0 is at this address, by the base register. */
-machine machine_at(uint64_t b, size_t memory_bytes, uint64_t address);
+/* A machine whose vectors start so far apart, and on which element 0 is at this address, by the base register. */
+machine machine_at(uint64_t b, uint64_t apart, size_t memory_bytes, uint64_t address);
 
 size_t elements(const machine *own, const access *how);
 

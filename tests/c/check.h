@@ -35,6 +35,7 @@ extern unsigned seen[FUNCTIONS][ANSWERS];
 void access_tests(void);
 void count_tests(void);
 void execute_tests(void);
+void long_buffers_tests(void);
 void word_tests(void);
 void settings_tests(void);
 void size_tests(void);

@@ -9,7 +9,7 @@
 
 #include <string.h>
 
-enum { MOST = 8, B = 32, FIRST = 0x1001 };
+enum { MOST = 9, B = 32, LARGEST = 128, FIRST = 0x1001 };
 
 /*
  * A load of memory's first bytes to row 0 of the array, by register 12 (the row) and register 0 or the stack pointer (the
@@ -19,7 +19,7 @@ static const uint32_t load = 0xE01F0000, load_by_stack = 0xE01F03E0;
 
 /*
  * The answer of a load with so many numbers of these settings. Where they are missing streaming and the array are off,
- * memory is at 0 and the stack check is on; the last number switches it off.
+ * memory is at 0 and the stack check is on; the sixth number switches it off.
  */
 static uint32_t answer_with(uint32_t word, size_t count)
 {
@@ -33,16 +33,23 @@ static uint32_t answer_with(uint32_t word, size_t count)
     case 5:
         return word == load ? SME_DONE : SME_STACK_MISALIGNED;
     case 6:
+    case 7:
         return SME_DONE;
     default:
         return SME_BAD_SETTINGS;
     }
 }
 
+/* The largest vector length of settings of so many numbers: the seventh, and where it is missing the vector length. */
+static uint64_t largest_with(size_t count)
+{
+    return count == 7 ? LARGEST : B;
+}
+
 /* So many numbers, read only: streaming and the array are on, and the stack check is off, each by any number but 0. */
 static guarded given_new(size_t count)
 {
-    static const uint64_t numbers[MOST] = {B, 1, UINT64_MAX, UINT64_C(1) << 32, FIRST, UINT64_C(1) << 40};
+    static const uint64_t numbers[MOST] = {B, 1, UINT64_MAX, UINT64_C(1) << 32, FIRST, UINT64_C(1) << 40, LARGEST};
     guarded given = guarded_new(count * sizeof numbers[0], 3);
     memcpy(given.bytes, numbers, given.length);
     guarded_read_only(&given);
@@ -60,7 +67,7 @@ static void execute_with(uint32_t word, size_t count, size_t places)
     guarded given = given_new(count), results = guarded_new(places * sizeof(uint64_t), 60);
     uint8_t wanted[MOST * sizeof(uint64_t)];
     memcpy(wanted, results.bytes, results.length);
-    machine own = machine_new(B, 64);
+    machine own = machine_within(B, largest_with(count), 64);
     set_x(&own, 0, FIRST);
     set_x(&own, 31, FIRST);
     set_x(&own, 12, 0);
@@ -88,12 +95,14 @@ static void execute_with(uint32_t word, size_t count, size_t places)
 static void check_with(size_t count)
 {
     guarded given = given_new(count);
-    const uint32_t wanted = count >= 2 && count <= 6 ? SME_DONE : SME_BAD_SETTINGS;
+    const uint32_t wanted = count >= 2 && count <= 7 ? SME_DONE : SME_BAD_SETTINGS;
     uint64_t four[4] = {1, 2, 3, 4};
     CHECK_EQUAL(sme_check(numbers_of(&given), count), wanted);
     CHECK_EQUAL(sme_measure(numbers_of(&given), count, four), wanted);
     CHECK_EQUAL(four[0], wanted == SME_DONE ? SME_X_COUNT : 1);
-    CHECK_EQUAL(four[3], wanted == SME_DONE ? SME_ZA_BYTES(B) : 4);
+    CHECK_EQUAL(four[1], wanted == SME_DONE ? SME_Z_BYTES(largest_with(count)) : 2);
+    CHECK_EQUAL(four[2], wanted == SME_DONE ? SME_P_BYTES(largest_with(count)) : 3);
+    CHECK_EQUAL(four[3], wanted == SME_DONE ? SME_ZA_BYTES(largest_with(count)) : 4);
     /* so many more are never those of the low bits of the count */
     for (int bit = 16; bit <= 32; bit += 16) {
         const size_t more = count + ((size_t)1 << bit);

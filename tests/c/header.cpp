@@ -1,6 +1,7 @@
 // The header in C++: its constructors, wrappers and linkage.
 #include "sme_move.h"
 
+#include <algorithm>
 #include <cstdio>
 #include <vector>
 
@@ -14,6 +15,23 @@ static bool tiles_right()
                        sme_held_take(&held, 2, &tile) == SME_NO_FREE_TILE && tile == 0;
     return taken && sme_held_give_up(&held, 2, 0) == SME_DONE && held.count == 1 &&
            sme_held_give_up(&held, 2, 0) == SME_BAD_HELD && held.tiles[0] == 4 && held.tiles[1] == 1;
+}
+
+// Whether a vector of 16 bytes goes to row 5 of an array of 32-byte vectors, and nothing beside it.
+static bool long_buffers_right()
+{
+    const sme_settings settings =
+        sme_settings_with_za(sme_settings_with_streaming(sme_settings_within(16, 32, 3), true), true);
+    std::vector<uint64_t> x(SME_X_COUNT);
+    std::vector<uint8_t> z(SME_Z_BYTES(32), 7), p(SME_P_BYTES(32), 0xFF), za(SME_ZA_BYTES(32)), wanted(za);
+    std::fill_n(wanted.begin() + 5 * 32, 16, uint8_t(7));
+    x[12] = 5;
+    const sme_buffers buffers = {x.data(), x.size(), z.data(), z.size(), p.data(),
+                                 p.size(), za.data(), za.size(), nullptr, 0};
+    uint64_t address = 1;
+    sme_settings made = settings;
+    return sme_settings_execute(settings, 0xC0000000, buffers, &address) == SME_DONE && za == wanted &&
+           sme_settings_make_within(32, 16, 3, &made) == SME_BAD_SETTINGS && made.largest_vector_bytes == 16;
 }
 
 int main()
@@ -30,5 +48,5 @@ int main()
     const bool right = answer == SME_DONE && address == 0 && za[4 * 16 + 15] == 0 && za[5 * 16] == 7 &&
                        za[5 * 16 + 15] == 7 && za[6 * 16] == 0;
     std::printf("C++: answer %u, %s\n", answer, sme_answer_text(answer));
-    return right && tiles_right() ? 0 : 1;
+    return right && tiles_right() && long_buffers_right() ? 0 : 1;
 }

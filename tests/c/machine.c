@@ -3,10 +3,10 @@
 
 #include <string.h>
 
-lengths right_lengths(uint64_t vector_bytes, size_t memory_bytes)
+lengths right_lengths(uint64_t largest_vector_bytes, size_t memory_bytes)
 {
-    return (lengths){SME_X_COUNT * sizeof(uint64_t), SME_Z_BYTES(vector_bytes), SME_P_BYTES(vector_bytes),
-                     SME_ZA_BYTES(vector_bytes), memory_bytes};
+    return (lengths){SME_X_COUNT * sizeof(uint64_t), SME_Z_BYTES(largest_vector_bytes),
+                     SME_P_BYTES(largest_vector_bytes), SME_ZA_BYTES(largest_vector_bytes), memory_bytes};
 }
 
 static uint8_t *copy_of(const guarded *buffer)
@@ -17,10 +17,10 @@ static uint8_t *copy_of(const guarded *buffer)
     return copy;
 }
 
-machine machine_with(uint64_t vector_bytes, lengths bytes)
+machine machine_with(uint64_t vector_bytes, uint64_t largest_vector_bytes, lengths bytes)
 {
     machine made;
-    made.settings = sme_settings_new(vector_bytes, 3);
+    made.settings = sme_settings_within(vector_bytes, largest_vector_bytes, 3);
     made.settings = sme_settings_with_streaming(made.settings, true);
     made.settings = sme_settings_with_za(made.settings, true);
     made.settings = sme_settings_with_memory_address(made.settings, 0x1000);
@@ -36,9 +36,14 @@ machine machine_with(uint64_t vector_bytes, lengths bytes)
     return made;
 }
 
+machine machine_within(uint64_t vector_bytes, uint64_t largest_vector_bytes, size_t memory_bytes)
+{
+    return machine_with(vector_bytes, largest_vector_bytes, right_lengths(largest_vector_bytes, memory_bytes));
+}
+
 machine machine_new(uint64_t vector_bytes, size_t memory_bytes)
 {
-    return machine_with(vector_bytes, right_lengths(vector_bytes, memory_bytes));
+    return machine_within(vector_bytes, vector_bytes, memory_bytes);
 }
 
 void set_x(machine *own, size_t number, uint64_t value)
@@ -49,7 +54,7 @@ void set_x(machine *own, size_t number, uint64_t value)
 void set_active(machine *own, size_t predicate, size_t element_bytes, size_t step)
 {
     size_t b = own->settings.vector_bytes;
-    uint8_t *bits = own->p.bytes + predicate * (b / 8);
+    uint8_t *bits = own->p.bytes + predicate * (own->settings.largest_vector_bytes / 8);
     for (size_t e = 0; e < b / element_bytes; e++) {
         size_t bit = e * element_bytes;
         if (e % step != 0) {
@@ -93,12 +98,12 @@ void expect(machine *own, uint32_t word, uint32_t wanted, uint64_t wanted_addres
 
 /*
  * Executes by the wrapper that takes settings or, in the run of the tests in which buffers touch the page behind them, by
- * the one of before version 0.5, which cannot switch the stack check off.
+ * the one of before version 0.5, which cannot switch the stack check off and has no longer buffers.
  */
 static uint32_t execute(const machine *own, sme_buffers lent, uint32_t word, uint64_t *address)
 {
     const sme_settings *settings = &own->settings;
-    if (guarded_touch_front || settings->stack_check_off) {
+    if (guarded_touch_front || settings->stack_check_off || settings->largest_vector_bytes != settings->vector_bytes) {
         return sme_settings_execute(*settings, word, lent, address);
     }
     return sme_execute(settings->vector_bytes, settings->level, settings->streaming, settings->za_on,

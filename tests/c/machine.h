@@ -17,10 +17,16 @@ typedef struct lengths {
     size_t x, z, p, za, memory;
 } lengths;
 
-lengths right_lengths(uint64_t vector_bytes, size_t memory_bytes);
+lengths right_lengths(uint64_t largest_vector_bytes, size_t memory_bytes);
 
-/* Level 3, streaming, the array and the stack check on, every predicate bit set, memory at address 1000 hex. */
-machine machine_with(uint64_t vector_bytes, lengths bytes);
+/*
+ * Level 3, streaming, the array and the stack check on, memory at address 1000 hex. Every bit of P is set, also beyond
+ * the vector length.
+ */
+machine machine_with(uint64_t vector_bytes, uint64_t largest_vector_bytes, lengths bytes);
+
+/* With buffers that are laid out for vectors of the largest length. */
+machine machine_within(uint64_t vector_bytes, uint64_t largest_vector_bytes, size_t memory_bytes);
 
 machine machine_new(uint64_t vector_bytes, size_t memory_bytes);
 

@@ -59,6 +59,7 @@ int main(void)
     for (int front = 0; front < 2; front++) {
         guarded_touch_front = front == 1;
         size_tests();
+        long_buffers_tests();
         settings_tests();
         count_tests();
         word_tests();

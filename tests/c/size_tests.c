@@ -28,7 +28,7 @@ static void length_tests(uint64_t b)
     static const uint32_t words[] = {0xC0000000, 0xC0060A6A, 0xE0020020, 0xE0220020};
     guarded_behind = TWO_TO_32 * sizeof(uint64_t);
     for (size_t i = 0; i < 4 * 4 * 4; i++) {
-        machine own = machine_at(b, b, 0x1000);
+        machine own = machine_at(b, b, b, 0x1000);
         sme_buffers lent = lend(&own);
         size_t *each[] = {&lent.x_count, &lent.z_bytes, &lent.p_bytes, &lent.za_bytes};
         *each[i / 16] += more[i / 4 % 4];
@@ -63,7 +63,7 @@ static void expect_far(machine *own, sparse *memory, uint32_t word, uint32_t wan
 /* Memory from this address on: so many of the elements go to their places or come from there, the others are inactive. */
 static void expect_far_done(uint64_t b, const access *how, uint64_t address, size_t first, size_t active)
 {
-    machine own = machine_at(b, 0, address + first);
+    machine own = machine_at(b, b, 0, address + first);
     own.settings.memory_address = address;
     sparse memory = memory_at(first);
     for (size_t e = 0; e < elements(&own, how); e++) {
@@ -86,7 +86,7 @@ static void expect_far_done(uint64_t b, const access *how, uint64_t address, siz
 /* An access that begins in memory and ends behind it changes nothing, and tells of the first byte behind. */
 static void expect_far_outside(uint64_t b, const access *how, size_t first)
 {
-    machine own = machine_at(b, 0, START + first);
+    machine own = machine_at(b, b, 0, START + first);
     own.settings.memory_address = START;
     sparse memory = memory_at(first);
     expect_far(&own, &memory, how->word, SME_OUTSIDE_MEMORY, START + FAR_BYTES);
@@ -96,7 +96,7 @@ static void expect_far_outside(uint64_t b, const access *how, size_t first)
 static void end_tests(uint64_t b, const access *how)
 {
     expect_far_done(b, how, UINT64_C(0) - FAR_BYTES, FAR_BYTES - b, b / how->m);
-    machine own = machine_at(b, 0, UINT64_C(0) - FAR_BYTES + 1);
+    machine own = machine_at(b, b, 0, UINT64_C(0) - FAR_BYTES + 1);
     own.settings.memory_address = UINT64_C(0) - FAR_BYTES + 1;
     sparse memory = memory_at(0);
     expect_far(&own, &memory, how->word, SME_BAD_LENGTHS, 0);

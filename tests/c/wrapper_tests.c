@@ -15,6 +15,7 @@ static void expect_settings(sme_settings found, sme_settings wanted)
     CHECK_EQUAL(found.za_on, wanted.za_on);
     CHECK_EQUAL(found.memory_address, wanted.memory_address);
     CHECK_EQUAL(found.stack_check_off, wanted.stack_check_off);
+    CHECK_EQUAL(found.largest_vector_bytes, wanted.largest_vector_bytes);
 }
 
 static const uint64_t numbers[] = {0, 1, 2, 3, 77, 128, UINT64_C(1) << 32, UINT64_MAX};
@@ -26,9 +27,13 @@ static void new_tests(void)
 {
     for (size_t i = 0; i < NUMBERS; i++) {
         for (size_t j = 0; j < NUMBERS; j++) {
-            const sme_settings wanted = {.vector_bytes = numbers[i], .level = numbers[j], .streaming = false,
-                                         .za_on = false, .memory_address = 0, .stack_check_off = false};
+            sme_settings wanted = {.vector_bytes = numbers[i], .level = numbers[j], .streaming = false, .za_on = false,
+                                   .memory_address = 0, .stack_check_off = false, .largest_vector_bytes = numbers[i]};
             expect_settings(sme_settings_new(numbers[i], numbers[j]), wanted);
+            for (size_t k = 0; k < NUMBERS; k++) {
+                wanted.largest_vector_bytes = numbers[k];
+                expect_settings(sme_settings_within(numbers[i], numbers[k], numbers[j]), wanted);
+            }
         }
     }
 }
@@ -60,10 +65,10 @@ static void with_tests(void)
     for (int switches = 0; switches < 8; switches++) {
         with_one((sme_settings){.vector_bytes = 64, .level = 2, .streaming = switches % 2 == 1,
                                 .za_on = switches / 2 % 2 == 1, .memory_address = UINT64_C(0xFEDCBA9876543210),
-                                .stack_check_off = switches / 4 == 1});
+                                .stack_check_off = switches / 4 == 1, .largest_vector_bytes = 128});
         with_one((sme_settings){.vector_bytes = UINT64_MAX, .level = 9, .streaming = switches % 2 == 1,
                                 .za_on = switches / 2 % 2 == 1, .memory_address = 1,
-                                .stack_check_off = switches / 4 == 1});
+                                .stack_check_off = switches / 4 == 1, .largest_vector_bytes = 5});
     }
 }
 
@@ -73,9 +78,11 @@ static void give_tests(void)
     for (int switches = 0; switches < 8; switches++) {
         const sme_settings settings = {.vector_bytes = 64, .level = 2, .streaming = switches % 2 == 1,
                                        .za_on = switches / 2 % 2 == 1, .memory_address = UINT64_C(0xFEDCBA9876543210),
-                                       .stack_check_off = switches / 4 == 1};
+                                       .stack_check_off = switches / 4 == 1,
+                                       .largest_vector_bytes = UINT64_C(0x123456789ABCDEF0)};
         const uint64_t wanted[] = {64, 2, (uint64_t)switches % 2, (uint64_t)switches / 2 % 2,
-                                   UINT64_C(0xFEDCBA9876543210), (uint64_t)switches / 4};
+                                   UINT64_C(0xFEDCBA9876543210), (uint64_t)switches / 4,
+                                   UINT64_C(0x123456789ABCDEF0)};
         uint64_t given[SME_SETTING_COUNT];
         CHECK_EQUAL(sizeof given, sizeof wanted);
         sme_settings_give(settings, given);
@@ -97,7 +104,7 @@ static void version_tests(void)
 /* By number, as hosts get it. */
 static const char *const texts[ANSWERS] = {
     [0] = "done",
-    [1] = "the vector length or the level is not allowed",
+    [1] = "a vector length or the level is not allowed",
     [2] = "a buffer has the wrong length, or memory ends above 2^64",
     [3] = "the word is no instruction of this level",
     [4] = "streaming mode is off",

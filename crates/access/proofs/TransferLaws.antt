@@ -11,6 +11,7 @@ use Rattle.settings.specs.Settings.{maxVectorBytes, lengthsOf}
 use Rattle.settings.specs.declared.Settings.{Settings}
 use Rattle.general.specs.Scatter.{scatter, all, onwards}
 use Rattle.general.proofs.ScatterLaws.{scatter-agree, scatter-tests}
+use Rattle.settings.proofs.SettingsLaws.{vector-valid}
 use Rattle.tiles.specs.Element.{bytesOf}
 use Rattle.tiles.specs.declared.element.ElementSize.{ElementSize}
 use Rattle.tiles.specs.declared.span.Span.{Span}
@@ -126,33 +127,33 @@ module _ {s : Settings} {x p za memory : List ℕ} {o : SliceAccess} {r : Prepar
 
   -- the bytes of the governing predicate
   abbrev part : List ℕ
-  part = predicate.part s (h .vector) p (h .p) (o .pg) few (r .predicate) (q .predicate)
+  part = predicate.part s (h .vectors) p (h .p) (o .pg) few (r .predicate) (q .predicate)
 
   pub part-end : r .predicate + s .«vector_bytes» / 8 ≤ length p
-  part-end = part-within s (h .vector) p (h .p) (o .pg) few (r .predicate) (q .predicate)
+  part-end = part-within s (h .vectors) p (h .p) (o .pg) few (r .predicate) (q .predicate)
 
   governed : {v : Span} → v .count * m ≡ s .«vector_bytes» → Governed v m part × (0 < length part)
   governed {v} e =
-      (part-governs s (h .vector) p (h .p) (o .pg) few (r .predicate) (q .predicate) v m e, rw (part-length s (h .vector) p (h .p) (o .pg) few (r .predicate) (q .predicate)) (omega (arith, whole-elements Bits128 _ (h .vector) .slices)))
+      (part-governs s (h .vectors) p (h .p) (o .pg) few (r .predicate) (q .predicate) v m e, rw (part-length s (h .vectors) p (h .p) (o .pg) few (r .predicate) (q .predicate)) (omega (arith, whole-elements Bits128 _ (vector-valid s (h .vectors)) .slices)))
 
   agrees : (k : ℕ) → k < s .«vector_bytes» → active part 0 m k ≡ activeUnder s p (o .pg) (o .slice) k
   agrees k v =
-      part-active s (h .vector) p (h .p) (o .pg) few (r .predicate) (q .predicate) m k v ∙ ap (λ (i : ℕ). active p i m k) (q .predicate)
+      part-active s (h .vectors) p (h .p) (o .pg) few (r .predicate) (q .predicate) m k v ∙ ap (λ (i : ℕ). active p i m k) (q .predicate)
 
   slice-at : Spanned (r .slice) m (s .«vector_bytes») (length za) (sliceByte s x (o .slice))
-  slice-at = rw (q .slice) (slice-spanned s (h .vector) x (o .slice) (primed .range .slice .tile) (length za) (omega (arith, h .za)))
+  slice-at = rw (q .slice) (slice-spanned s (h .vectors) x (o .slice) (primed .range .slice .tile) (length za) (omega (arith, h .za)))
 
   module _ (at long : ℕ) (fits : at + s .«vector_bytes» ≤ long) {v : Span} (e : v ≡ runFrom s (o .slice .size) at) where
     run-at : Spanned v m (s .«vector_bytes») long (onwards at)
-    run-at = rw e (run-spanned s (h .vector) (o .slice .size) at long fits)
+    run-at = rw e (run-spanned s (h .vectors) (o .slice .size) at long fits)
 
     pub store-paired : Paired v (r .slice) m long (length za) × Governed v m part × (0 < length part)
     store-paired =
-        let g = governed (run-at .bytes) in (spanned-paired run-at slice-at (whole-elements Bits128 _ (h .vector) .longest), g .0, g .1)
+        let g = governed (run-at .bytes) in (spanned-paired run-at slice-at (whole-elements Bits128 _ (vector-valid s (h .vectors)) .longest), g .0, g .1)
 
     pub load-paired : Paired (r .slice) v m (length za) long × Governed (r .slice) m part × (0 < length part)
     load-paired =
-        let g = governed (slice-at .bytes) in (spanned-paired slice-at run-at (whole-elements Bits128 _ (h .vector) .longest), g .0, g .1)
+        let g = governed (slice-at .bytes) in (spanned-paired slice-at run-at (whole-elements Bits128 _ (vector-valid s (h .vectors)) .longest), g .0, g .1)
 
     -- a store writes the active bytes of the slice, a load those of what it reads, and zero
     stored : (dst : List ℕ) {d : List ℕ} → d ≡ merged false (active part 0 m) v (r .slice) m za dst → d ≡ scatter (onwards at) (activeUnder s p (o .pg) (o .slice)) (λ (k : ℕ). getD za (sliceByte s x (o .slice) k) 0) (s .«vector_bytes») dst
@@ -163,10 +164,10 @@ module _ {s : Settings} {x p za memory : List ℕ} {o : SliceAccess} {r : Prepar
 
   -- a vector has room in a blank one, and so has a window
   pub short : 0 + s .«vector_bytes» ≤ length blank
-  short = omega (arith, whole-elements Bits128 _ (h .vector) .longest)
+  short = omega (arith, whole-elements Bits128 _ (vector-valid s (h .vectors)) .longest)
 
   pub window-fits : (w : Window) → Reaches s x p (length memory) o (Parts w) → Fits w maxVectorBytes (length memory)
-  window-fits w reach = fits-more (reach .1 .fits) (whole-elements Bits128 _ (h .vector) .longest)
+  window-fits w reach = fits-more (reach .1 .fits) (whole-elements Bits128 _ (vector-valid s (h .vectors)) .longest)
 
   module _ (z : List ℕ) where
     module _ (at : ℕ) (reach : Reaches s x p (length memory) o (Whole at)) {v : Span} (e : v ≡ runFrom s (o .slice .size) at) where

@@ -12,7 +12,7 @@ use Rattle.general.specs.Scatter.{scatter, all, zeros, onwards}
 use Rattle.general.proofs.ScatterLaws.{length-scatter, getD-scatter-other}
 use Rattle.settings.specs.Settings.{isVectorLength, maxVectorBytes, strideOf, lengthsOf}
 use Rattle.settings.specs.declared.Settings.{Settings}
-use Rattle.settings.proofs.SettingsLaws.{five-lengths, vector-length-small, stride-fits}
+use Rattle.settings.proofs.SettingsLaws.{five-lengths, vector-length-small, vector-valid, stride-fits}
 use Rattle.tiles.specs.Element.{bytesOf}
 use Rattle.tiles.specs.Slice.{PowerOfTwo}
 use Rattle.tiles.specs.Predicate.{active}
@@ -64,8 +64,11 @@ groups-power Two = elements-power Bits16
 groups-power Four = elements-power Bits32
 
 -- the vectors of a group, as code forms them
-pub group-list : (B r w : ℕ) {first apart : ℕ} → apart ≡ B / r → first ≡ w % apart → first ∷ (first + apart) ∷ (first + 2 * apart) ∷ (first + 3 * apart) ∷ [] ≡ groupOf B r (w % (B / r))
-group-list B r w e f = rw (f, e)
+pub group-list : (B r w : ℕ) {first apart : ℕ} → apart ≡ B / r → first ≡ w % apart → first ∷ (first + apart) ∷ (first + apart + apart) ∷ (first + apart + apart + apart) ∷ [] ≡ groupOf B r (w % (B / r))
+group-list B r w {first} {apart} e f =
+    let third : first + apart + apart ≡ first + 2 * apart = omega arith in
+    let fourth : first + 2 * apart + apart ≡ first + 3 * apart = omega arith in
+    rw (third, fourth, f, e)
 
 -- registers are at least two, and two where they are not four
 some-registers : (r : RegisterCount) → 2 ≤ registersOf r
@@ -91,16 +94,16 @@ module _ (s : Settings) where
     m = bytesOf (o .size)
 
     slice-is : Spanned slice m B (length za) (sliceByte s x o)
-    slice-is = rw sliced (slice-spanned s (sized .vector) x o (range .tile) (length za) (omega (arith, sized .za)))
+    slice-is = rw sliced (slice-spanned s (sized .vectors) x o (range .tile) (length za) (omega (arith, sized .za)))
 
     register-is : Spanned register m B (length z) (registerByte s v)
-    register-is = rw vectored (vector-spanned s (sized .vector) (o .size) v 32 (length z) few (omega (arith, sized .z)))
+    register-is = rw vectored (vector-spanned s (sized .vectors) (o .size) v 32 (length z) few (omega (arith, sized .z)))
 
     pub to-slice : Paired slice register m (length za) (length z)
-    to-slice = spanned-paired slice-is register-is (vector-length-small B (sized .vector))
+    to-slice = spanned-paired slice-is register-is (vector-length-small B (vector-valid s (sized .vectors)))
 
     pub from-slice : Paired register slice m (length z) (length za)
-    from-slice = spanned-paired register-is slice-is (vector-length-small B (sized .vector))
+    from-slice = spanned-paired register-is slice-is (vector-length-small B (vector-valid s (sized .vectors)))
 
     pub slice-apart : m ≤ slice .step
     slice-apart = slice-is .apart
@@ -114,19 +117,19 @@ module _ (s : Settings) where
     -- under predicate pg, whose bytes start at `start`
     module _ (pg : ℕ) (below : pg < 8) {start : ℕ} (starts : start ≡ pg * (S / 8)) where
       abbrev bits : List ℕ
-      bits = part s (sized .vector) p (sized .p) pg (omega arith) start starts
+      bits = part s (sized .vectors) p (sized .p) pg (omega arith) start starts
 
       pub predicate-within : start + B / 8 ≤ length p
-      predicate-within = part-within s (sized .vector) p (sized .p) pg (omega arith) start starts
+      predicate-within = part-within s (sized .vectors) p (sized .p) pg (omega arith) start starts
 
       pub slice-governed : Governed slice m bits
-      slice-governed = part-governs s (sized .vector) p (sized .p) pg (omega arith) start starts slice m (slice-is .bytes)
+      slice-governed = part-governs s (sized .vectors) p (sized .p) pg (omega arith) start starts slice m (slice-is .bytes)
 
       pub register-governed : Governed register m bits
-      register-governed = part-governs s (sized .vector) p (sized .p) pg (omega arith) start starts register m (register-is .bytes)
+      register-governed = part-governs s (sized .vectors) p (sized .p) pg (omega arith) start starts register m (register-is .bytes)
 
       same-active : (k : ℕ) → k < B → active bits 0 m k ≡ activeUnder s p pg o k
-      same-active k w = part-active s (sized .vector) p (sized .p) pg (omega arith) start starts m k w ∙ rw starts
+      same-active k w = part-active s (sized .vectors) p (sized .p) pg (omega arith) start starts m k w ∙ rw starts
 
       pub merged-to : {za′ : List ℕ} → za′ ≡ merged false (active bits 0 m) slice register m z za → za′ ≡ scatter (sliceByte s x o) (activeUnder s p pg o) (λ (k : ℕ). getD z (registerByte s v k) 0) B za
       merged-to = spanned-merged slice-is register-is _ _ z za same-active
@@ -152,13 +155,13 @@ module _ (s : Settings) where
   -- one vector, copied and zeroed
   module _ (z za : List ℕ) (sized : Sized s 32 (length z) (lengthsOf s .p) (length za) 0) (register vector : ℕ) (few : register < 32) (among : vector < B) {to from : Span} (t : to ≡ runFrom s Bits8 (register * S)) (f : from ≡ runFrom s Bits8 (vector * S)) where
     to-is : Spanned to 1 (B) (length z) (onwards (register * S))
-    to-is = rw t (vector-spanned s (sized .vector) Bits8 register 32 (length z) few (omega (arith, sized .z)))
+    to-is = rw t (vector-spanned s (sized .vectors) Bits8 register 32 (length z) few (omega (arith, sized .z)))
 
     from-is : Spanned from 1 (B) (length za) (onwards (vector * S))
-    from-is = rw f (vector-spanned s (sized .vector) Bits8 vector (S) (length za) (omega (arith, stride-fits s (sized .vector) .fit)) (omega (arith, sized .za)))
+    from-is = rw f (vector-spanned s (sized .vectors) Bits8 vector (S) (length za) (omega (arith, stride-fits s (sized .vectors) .fit)) (omega (arith, sized .za)))
 
     pub vector-paired : Paired to from 1 (length z) (length za)
-    vector-paired = spanned-paired to-is from-is (vector-length-small _ (sized .vector))
+    vector-paired = spanned-paired to-is from-is (vector-length-small _ (vector-valid s (sized .vectors)))
 
     pub vector-apart : 1 ≤ from .step
     vector-apart = from-is .apart
@@ -185,7 +188,7 @@ module _ (s : Settings) where
     -- vectors of the group are among those of ZA, and differ
     among : GroupDiffers B r (grouped .0)
     among =
-        let h = groups registers B (sized .vector) in
+        let h = groups registers B (vector-valid s (sized .vectors)) in
         groups-differ B r (B / r) (grouped .0) (h .few) (h .some) (h .whole) (grouped .1)
 
     module _ (n : ℕ) (below : n < r) {z₁ za₁ : List ℕ} (so : GroupTaken s zeroes zd g z za n z₁ za₁) where
@@ -201,7 +204,7 @@ module _ (s : Settings) where
       places-differ : (i k : ℕ) → i < B → k < n * B → getD g n 0 * S + i ≡ groupAt S B g k → ⊥
       unfolding groupAt
       places-differ i k w v e =
-          let f = stride-fits s (sized .vector) in
+          let f = stride-fits s (sized .vectors) in
           let some : 0 < B = omega arith in
           let earlier : k / B < n = div-lt-iff-lt-mul some .1 v in
           let same = digits-same S (getD g n 0) i (getD g (k / B) 0) (k % B) (omega (arith, f .fit)) (omega (arith, f .fit, mod-lt k some)) e .0 in

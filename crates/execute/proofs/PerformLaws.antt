@@ -32,10 +32,10 @@ use Rattle.semantics.proofs.ExecuteLaws.{buffers-refused, answers-agree, SizedA
 module _ (s : Settings) (lx lz lp lza lm : ℕ) (h : Sized s lx lz lp lza lm) where
   -- a function that is not lent memory, or Z
   pub without-memory : Sized s lx lz lp lza 0
-  without-memory = record { vector = h .vector; level = h .level; x = h .x; z = h .z; p = h .p; za = h .za; memory = omega (arith, h .memory) }
+  without-memory = record { vectors = h .vectors; level = h .level; x = h .x; z = h .z; p = h .p; za = h .za; memory = omega (arith, h .memory) }
 
   pub without-z : Sized s lx (lengthsOf s .z) lp lza lm
-  without-z = record { vector = h .vector; level = h .level; x = h .x; z = refl; p = h .p; za = h .za; memory = h .memory }
+  without-z = record { vectors = h .vectors; level = h .level; x = h .x; z = refl; p = h .p; za = h .za; memory = h .memory }
 
 -- what is in range whether a move zeroes or not, an access stores or not
 pub array-range : (b : Bool) (o : ArrayToVectors) → InRange (arrayMove b o) → ArrayInRange o

@@ -34,7 +34,10 @@ fn group_of(registers: RegisterCount, index: u64, offset: u8, vector_bytes: usiz
 {
     let apart = group_stride(vector_bytes, registers);
     let first = tiles::selected(index, offset, apart);
-    [first, first + apart, first + 2 * apart, first + 3 * apart]
+    // Each from the one before, which takes fewer registers than products do.
+    let second = first + apart;
+    let third = second + apart;
+    [first, second, third, third + apart]
 }
 
 // Copies a vector of the ZA array to a vector register, and then sets it to zero if that is asked for.

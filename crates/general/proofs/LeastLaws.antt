@@ -67,3 +67,9 @@ module _ (f : ℕ → Bool) where
       go : (o : Option ℕ) → least f n ≡ o → isSome o ≡ true
       go (some j) e = refl
       go none e = absurd (true≢false (sym y ∙ least-none n e k h))
+
+-- tests that agree below n
+pub least-same : (f g : ℕ → Bool) (n : ℕ) → ((k : ℕ) → k < n → f k ≡ g k) → least f n ≡ least g n
+unfolding least
+least-same f g zero h = refl
+least-same f g (suc n) h = rw (least-same f g n (λ k w. h k (omega arith)), h n (omega arith))

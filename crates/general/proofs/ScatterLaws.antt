@@ -1,8 +1,8 @@
 -- Laws of specs/Scatter.antt, for any places, test and values.
 -- Assumes nothing.
-use mathlib.Core.Path.{_≡_, refl, ap, _∙_}
+use mathlib.Core.Path.{_≡_, refl, sym, ap, _∙_}
 use mathlib.Core.Bool.{Bool, true, false, cond}
-use mathlib.Core.List.{List}
+use mathlib.Core.List.{List, [], _∷_}
 use mathlib.Core.Option.{Option, none, some}
 use Prim.Native.Nat.{ℕ, zero, suc, _+_, _<_, _≤_}
 use native.Mathlib.Nat.{add-zero, add-suc, le-antisymm}
@@ -103,6 +103,30 @@ pub scatter-tests : (at : ℕ → ℕ) (on on′ : ℕ → Bool) (val : ℕ → 
 unfolding scatter
 scatter-tests at on on′ val zero l h = refl
 scatter-tests at on on′ val (suc n) l h = rw (h n (omega arith), scatter-tests at on on′ val n l (λ k w. h k (omega arith)))
+
+-- two lists of one length that agree at a byte agree there once the same is written to both
+set-both : (l l′ : List ℕ) (i v q : ℕ) → length l ≡ length l′ → getD l q 0 ≡ getD l′ q 0 → getD (set l i v) q 0 ≡ getD (set l′ i v) q 0
+set-both [] [] i v q long e = e
+set-both [] (y ∷ l′) i v q long e = absurd (omega arith)
+set-both (x ∷ l) [] i v q long e = absurd (omega arith)
+set-both (x ∷ l) (y ∷ l′) zero v zero long e = refl
+set-both (x ∷ l) (y ∷ l′) zero v (suc q) long e = e
+set-both (x ∷ l) (y ∷ l′) (suc i) v zero long e = e
+set-both (x ∷ l) (y ∷ l′) (suc i) v (suc q) long e = set-both l l′ i v q (omega arith) e
+
+pub scatter-both : (at : ℕ → ℕ) (on on′ : ℕ → Bool) (val val′ : ℕ → ℕ) (n : ℕ) (l l′ : List ℕ) (q : ℕ) → ((k : ℕ) → k < n → on k ≡ on′ k) → ((k : ℕ) → k < n → val k ≡ val′ k) → length l ≡ length l′ → getD l q 0 ≡ getD l′ q 0 → getD (scatter at on val n l) q 0 ≡ getD (scatter at on′ val′ n l′) q 0
+unfolding scatter
+scatter-both at on on′ val val′ zero l l′ q tests values long e = e
+scatter-both at on on′ val val′ (suc n) l l′ q tests values long e =
+    rw (tests n (omega arith), values n (omega arith))
+    (go (on′ n) (scatter-both at on on′ val val′ n l l′ q (λ k w. tests k (omega arith)) (λ k w. values k (omega arith)) long e))
+  where
+    same-length : length (scatter at on val n l) ≡ length (scatter at on′ val′ n l′)
+    same-length = length-scatter at on val n l ∙ long ∙ sym (length-scatter at on′ val′ n l′)
+
+    go : (b : Bool) → getD (scatter at on val n l) q 0 ≡ getD (scatter at on′ val′ n l′) q 0 → getD (setIf b (scatter at on val n l) (at n) (val′ n)) q 0 ≡ getD (setIf b (scatter at on′ val′ n l′) (at n) (val′ n)) q 0
+    go true ih = set-both (scatter at on val n l) (scatter at on′ val′ n l′) (at n) (val′ n) q same-length ih
+    go false ih = ih
 
 -- lists of one length that agree at n places, and wherever none of them is
 pub lists-agree : (at : ℕ → ℕ) (n : ℕ) (l l′ : List ℕ) → length l ≡ length l′ → ((k : ℕ) → k < n → getD l (at k) 0 ≡ getD l′ (at k) 0) → ((q : ℕ) → ((k : ℕ) → k < n → q ≡ at k → ⊥) → getD l q 0 ≡ getD l′ q 0) → l ≡ l′

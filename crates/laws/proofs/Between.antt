@@ -5,7 +5,7 @@ use mathlib.Core.Path.{_≡_, refl, sym, ap, _∙_, subst}
 use mathlib.Core.Bool.{true, true≢false}
 use mathlib.Core.List.{List, [], _∷_, _++_, map}
 use mathlib.Core.Option.{Option, none, some}
-use native.Mathlib.Nat.{le-refl, mod-lt}
+use native.Mathlib.Nat.{le-refl, mod-lt, mul-le-mul-right}
 use native.Mathlib.Omega.{arith}
 use Rattle.tiles.specs.Element.{bytesOf}
 use Rattle.tiles.specs.declared.element.ElementSize.{ElementSize}
@@ -31,7 +31,8 @@ use Rattle.semantics.specs.Execute.{ifDone}
 use Rattle.semantics.proofs.ExecuteLaws.{refused-not-done, Ends, does, stays, ends}
 use Rattle.semantics.proofs.EffectLaws.{effect-idle}
 use Rattle.general.specs.Places.{Idle}
-use Rattle.settings.proofs.SettingsLaws.{five-lengths}
+use Rattle.settings.specs.Settings.{strideOf}
+use Rattle.settings.proofs.SettingsLaws.{vector-length-long, vector-valid, stride-fits}
 use Rattle.laws.specs.Calls.{Call, stateWith, outcome, zaAfter, run, Move, into, out, other, decodedOf, moveOf, decodedMove, moved, withMove, moves}
 use Rattle.laws.specs.Between.{LeavesZa, refused, idle, LeavesIsKept, BesideMayRun, Beside, BesideLeaves, RefusedLeaves, InactiveLeaves, LoadsHavePlaces, LoadsDoNotLeave, LoadsZero, LoadsStayOut, ZeroingDoesNotLeave, ZeroingStaysOut}
 use Rattle.laws.specs.Crossing.{Crosses}
@@ -84,7 +85,7 @@ inactive-leaves c za o e h = go (ends (c .settings) (c .word) (stateWith c za))
     go (stays r n q) = refused r n
     go (does o′ d) =
         let B = c .settings .«vector_bytes» in
-        let w = whole-elements (o .slice .size) B (d .sized .vector) in
+        let w = whole-elements (o .slice .size) B (vector-valid (c .settings) (d .sized .vectors)) in
         idle (MovaToTile o) e (λ k below. h (k / bytesOf (o .slice .size)) (element-below B B (bytesOf (o .slice .size)) (B / bytesOf (o .slice .size)) (w .elements) (le-refl B) k (w .some) below))
 
 -- ---- calls that write ZA
@@ -103,7 +104,7 @@ first-written c za o q a there on (refused r e) = refused-not-done r (sym e ∙ 
 first-written c za o q a there on (idle o′ e h) =
     let d = done-does c za o q a in
     let none = subst (λ (o : Operation). Idle (writesOf (c .settings) (publicOf (stateWith c za)) o .za)) (same-operation (sym e ∙ q)) h in
-    let long = five-lengths (λ B. 0 < B) (omega arith) (omega arith) (omega arith) (omega arith) (omega arith) (c .settings .«vector_bytes») (d .sized .vector) in
+    let long : 0 < c .settings .«vector_bytes» = omega (arith, vector-length-long _ (vector-valid (c .settings) (d .sized .vectors))) in
     true≢false (sym on ∙ none 0 (there long))
 
 pub loads-have-places : LoadsHavePlaces
@@ -126,13 +127,15 @@ pub loads-zero : LoadsZero
 unfolding writesOf valuesOf effectOf
 loads-zero c za o e i q a he hi off =
     let B = c .settings .«vector_bytes» in
+    let S = strideOf (c .settings) in
     let m = bytesOf (o .slice .size) in
     let d = done-does c za (Ld1 o) q a in
-    let h = whole-elements (o .slice .size) B (d .sized .vector) in
+    let h = whole-elements (o .slice .size) B (vector-valid (c .settings) (d .sized .vectors)) in
+    let fit = stride-fits (c .settings) (d .sized .vectors) .fit in
     let r = decoded-in-range (c .word) (c .settings .level) (Ld1 o) (d .decoded) in
-    let inactive = active-element (c .p) (o .pg * (B / 8)) m e i hi ∙ off in
+    let inactive = active-element (c .p) (o .pg * (S / 8)) m e i hi ∙ off in
     rw (ap (λ (t : State). t .za) (d .state))
-    (written-at B B m (B / m) (h .elements) (le-refl B) (o .slice .tile) (r .slice .tile) (o .slice .direction) all _ za _ e i (omega (arith, d .sized .za)) (mod-lt _ (h .slices)) he hi ∙ rw inactive)
+    (written-at S B m (B / m) (h .elements) fit (o .slice .tile) (r .slice .tile) (o .slice .direction) all _ za _ e i (omega (arith, d .sized .za, mul-le-mul-right S fit)) (mod-lt _ (h .slices)) he hi ∙ rw inactive)
 
 -- how many moves of a list are neither into a tile nor out of one
 abbrev others : List Move → ℕ

@@ -179,14 +179,14 @@ module _ (S B : ℕ) (size : ElementSize) (d : Direction) (t : ℕ) (valid : isV
         ap (λ (b : Bool). cond b (getD (r .call .z) (registerOf (r .call) * S + (k * m + i)) 0) (getD at (byteOf S m t d j k i) 0)) (active-element (r .call .p) (predicateOf (r .call) * (S / 8)) m k i hi) ∙
         ap (cond (bit (r .call .p) (predicateOf (r .call) * (S / 8)) (k * m)) (getD (r .call .z) (registerOf (r .call) * S + (k * m + i)) 0)) (r .until k i hk hi)
 
-    -- a column's call found ZA of the right length
-    length-kept : (k : ℕ) → k < n → length za ≡ B * S
-    length-kept k h =
+    -- a column's call found ZA long enough
+    long-enough : (k : ℕ) → k < n → B * S ≤ length za
+    long-enough k h =
         let c = columnCall k h in
-        sym (run-long first za) ∙ sym (run-long (c .before) za₁) ∙ out-call (c .call) (run (c .before) za₁) S B size (flip d) t k (c .move) .long
+        omega (arith, run-long first za, run-long (c .before) za₁, out-call (c .call) (run (c .before) za₁) S B size (flip d) t k (c .move) .long)
 
     inside : (r k i : ℕ) → r < n → k < n → i < m → byteAt S m t r k i < length (run cs za)
-    inside r k i hr hk hi = rw (run-long cs za, length-kept k hk) (byteAt-within S B m n divides fits t r k i tile hr hk hi)
+    inside r k i hr hk hi = omega (arith, run-long cs za, long-enough k hk, byteAt-within S B m n divides fits t r k i tile hr hk hi)
 
     zeroed-slice : (k e i : ℕ) → k < n → e < n → i < m → getD (run cs za) (byteOf S m t (flip d) k e i) 0 ≡ 0
     zeroed-slice k e i hk he hi =

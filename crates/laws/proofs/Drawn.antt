@@ -3,18 +3,18 @@
 -- Assumes nothing.
 use Prim.Native.Nat.{ℕ, zero, suc, _+_, _*_, _-_, _/_, _%_, _^_, _<_}
 use mathlib.Core.Path.{_≡_, refl, sym, ap, _∙_, subst}
-use mathlib.Core.Bool.{Bool, true, false, cond, not}
+use mathlib.Core.Bool.{Bool, true, false, cond, not, _&&_}
 use mathlib.Core.List.{List, [], _∷_, _++_, map, append-assoc}
 use mathlib.Core.Option.{none, some}
 use mathlib.Core.Logic.{_⊎_, inl, inr}
 use native.Mathlib.Nat.{le-refl, mod-lt, div-add-mod'}
 use native.Mathlib.Omega.{arith}
 use lib.Arith.{digits-lt, digits-mod}
-use lib.Dec.{eqb}
+use lib.Dec.{eqb, ltb}
 use lib.ListN.{length, getD, replicate, getD-replicate}
-use borrow.Author.Tests.{eqb-true, eqb-false, not-true}
+use borrow.Author.Tests.{eqb-true, eqb-false, eq-eqb, ltb-true, lt-ltb, not-true}
 use Rattle.general.specs.Least.{least}
-use Rattle.general.proofs.BoolLaws.{by-test, and-parts, allOf}
+use Rattle.general.proofs.BoolLaws.{by-test, and-parts, and-both, clash, allOf}
 use Rattle.tiles.specs.Element.{bytesOf}
 use Rattle.tiles.specs.Predicate.{bit}
 use Rattle.tiles.proofs.TileLaws.{digits-same, element-below}
@@ -26,7 +26,7 @@ use Rattle.tiles.specs.declared.direction.Direction.{Direction}
 use Rattle.tiles.specs.declared.direction.Direction.the-variants.{Horizontal, Vertical}
 use Rattle.encoding.specs.declared.operation.Decoded.{Decoded}
 use Rattle.encoding.specs.declared.operation.Decoded.the-variants as decoded
-use Rattle.settings.specs.Settings.{isVectorLength}
+use Rattle.settings.proofs.Claims.{is-five-lengths}
 use Rattle.semantics.specs.ExampleBuffers.{bytesFrom, zaAt}
 use Rattle.laws.specs.Calls.{Call, outcome, run, Move, moved, decodedOf, registerIn, predicateIn, registerOf, predicateOf}
 use Rattle.laws.specs.Crossing.{occurrences, slicesOf, Once, Crossed}
@@ -36,7 +36,7 @@ use Rattle.laws.specs.Drawn.{VectorsAfter, callsAmong, ColumnsByChoices,
 use Rattle.laws.proofs.CallLaws.{cons-same, run-long}
 use Rattle.laws.proofs.PhaseLaws.{occurrences-past}
 use Rattle.laws.proofs.Exhibit.{inward-decodes, outward-decodes, goes-in, comes-out}
-use Rattle.laws.proofs.Shown.{passes, row-ready, column-ready, rows-once, columns-once, list-shown}
+use Rattle.laws.proofs.Shown.{fitting-32, passes, row-ready, column-ready, rows-once, columns-once, list-shown}
 use Rattle.laws.proofs.Crossing.{crossing}
 
 -- ---- the call of a move
@@ -75,53 +75,60 @@ placed-later first {cs} {c} p =
 -- ---- of any list
 
 pub vectors-after : VectorsAfter
-vectors-after B size d t cs za valid tile c v q hv hq = (go (by-test (eqb (v % m) t)), inside)
+vectors-after S B size d t cs za fits tile c v q hq = (go (by-test (ltb v B && ltb q B && eqb (v % m) t)), inside)
   where
     m : ℕ
     m = bytesOf size
 
     w : WholeElements B (bytesOf size)
-    w = whole-elements size B valid
+    w = whole-elements size B (is-five-lengths B .1 (fits .vector))
 
     -- the byte in a vector of the tile is one of the tile's
-    place : v % m ≡ t → byteAt B m t (v / m) (q / m) (q % m) ≡ v * B + q
+    place : v % m ≡ t → byteAt S m t (v / m) (q / m) (q % m) ≡ v * S + q
     place e =
         let row : v / m * m + t ≡ v = ap (λ (x : ℕ). v / m * m + x) (sym e) ∙ div-add-mod' v m in
-        ap (λ (x : ℕ). x * B + (q / m * m + q % m)) row ∙ ap (λ (x : ℕ). v * B + x) (div-add-mod' q m)
+        ap (λ (x : ℕ). x * S + (q / m * m + q % m)) row ∙ ap (λ (x : ℕ). v * S + x) (div-add-mod' q m)
 
     below : (x : ℕ) → x < B → x / m < slicesOf B size
     below x h = element-below B B m (slicesOf B size) (w .elements) (le-refl B) x (w .some) h
 
-    inside : v % m ≡ t → v * B + q < length (run cs za)
-    inside e = subst (λ (p : ℕ). p < length (run cs za)) (place e) (c .inside (v / m) (q / m) (q % m) (below v hv) (below q hq) (mod-lt q (w .some)))
+    inside : v < B → q < B → v % m ≡ t → v * S + q < length (run cs za)
+    inside lv lq e = subst (λ (p : ℕ). p < length (run cs za)) (place e) (c .inside (v / m) (q / m) (q % m) (below v lv) (below q lq) (mod-lt q (w .some)))
 
-    inner : v % m ≡ t → getD (run cs za) (v * B + q) 0 ≡ 0
-    inner e = ap (λ (p : ℕ). getD (run cs za) p 0) (sym (place e)) ∙ c .zeroed (v / m) (q / m) (q % m) (below v hv) (below q hq) (mod-lt q (w .some))
+    inner : v < B → q < B → v % m ≡ t → getD (run cs za) (v * S + q) 0 ≡ 0
+    inner lv lq e = ap (λ (p : ℕ). getD (run cs za) p 0) (sym (place e)) ∙ c .zeroed (v / m) (q / m) (q % m) (below v lv) (below q lq) (mod-lt q (w .some))
 
-    outer : (v % m ≡ t → ⊥) → Outside B m (slicesOf B size) t (v * B + q)
+    -- a byte of the tile is in one of its vectors, below B in it
+    outer : ltb v B && ltb q B && eqb (v % m) t ≡ false → Outside S m (slicesOf B size) t (v * S + q)
     outer n r k i hr hk hi e =
         let low : k * m + i < B = rw (← w .elements) (digits-lt hk hi) in
-        let same : v ≡ r * m + t = digits-same B v q (r * m + t) (k * m + i) hq low e .0 in
-        n (ap (λ (x : ℕ). x % m) same ∙ digits-mod r tile)
+        let row : r * m + t < B = rw (← w .elements) (digits-lt hr tile) in
+        let same = digits-same S v q (r * m + t) (k * m + i) hq (omega (arith, fits .fit)) e in
+        clash _
+        (and-both _ _ (and-both _ _ (lt-ltb v B (omega (arith, same .0))) (lt-ltb q B (omega (arith, same .1)))) (eq-eqb _ _ (ap (λ (x : ℕ). x % m) (same .0) ∙ digits-mod r tile)))
+        n
 
-    go : (eqb (v % m) t ≡ true) ⊎ (eqb (v % m) t ≡ false) → getD (run cs za) (v * B + q) 0 ≡ cond (eqb (v % bytesOf size) t) 0 (getD za (v * B + q) 0)
-    go (inl y) = inner (eqb-true _ _ y) ∙ sym (ap (λ (b : Bool). cond b 0 (getD za (v * B + q) 0)) y)
-    go (inr y) = c .kept (v * B + q) (outer (eqb-false _ _ y)) ∙ sym (ap (λ (b : Bool). cond b 0 (getD za (v * B + q) 0)) y)
+    go : (ltb v B && ltb q B && eqb (v % m) t ≡ true) ⊎ (ltb v B && ltb q B && eqb (v % m) t ≡ false) → getD (run cs za) (v * S + q) 0 ≡ cond (ltb v B && ltb q B && eqb (v % bytesOf size) t) 0 (getD za (v * S + q) 0)
+    go (inl y) =
+        let h = and-parts (ltb v B && ltb q B) (eqb (v % m) t) y in
+        let g = and-parts (ltb v B) (ltb q B) (h .0) in
+        inner (ltb-true _ _ (g .0)) (ltb-true _ _ (g .1)) (eqb-true _ _ (h .1)) ∙ sym (ap (λ (b : Bool). cond b 0 (getD za (v * S + q) 0)) y)
+    go (inr y) = c .kept (v * S + q) (outer y) ∙ sym (ap (λ (b : Bool). cond b 0 (getD za (v * S + q) 0)) y)
 
 -- ---- of lists by choices
 
 pub columns-by-choices : ColumnsByChoices
-columns-by-choices B size d t ins outs rows columns za first between last valid tile long readyIn readyOut eachRow eachColumn c k j i hk hj hi =
-    ap (λ (r : ℕ). getD (outcome (c .column k hk .call) (run (c .column k hk .before) za) .state .z) (r * B + (j * m + i)) 0) (sym register) ∙
+columns-by-choices S B size d t ins outs rows columns za first between last fits tile long readyIn readyOut eachRow eachColumn c k j i hk hj hi =
+    ap (λ (r : ℕ). getD (outcome (c .column k hk .call) (run (c .column k hk .before) za) .state .z) (r * S + (j * m + i)) 0) (sym register) ∙
     c .back k j i hk hj hi ∙
-    ap (λ (x : Call). cond (bit (x .p) (predicateOf x * (B / 8)) (k * m)) (getD (x .z) (registerOf x * B + (k * m + i)) 0) content) row-is ∙
-    ap (λ (x : Decoded). cond (bit (ins j .p) (predicateIn x * (B / 8)) (k * m)) (getD (ins j .z) (registerIn x * B + (k * m + i)) 0) content) row-decodes
+    ap (λ (x : Call). cond (bit (x .p) (predicateOf x * (S / 8)) (k * m)) (getD (x .z) (registerOf x * S + (k * m + i)) 0) content) row-is ∙
+    ap (λ (x : Decoded). cond (bit (ins j .p) (predicateIn x * (S / 8)) (k * m)) (getD (ins j .z) (registerIn x * S + (k * m + i)) 0) content) row-decodes
   where
     m : ℕ
     m = bytesOf size
 
     content : ℕ
-    content = getD za (byteOf B (bytesOf size) t d j k i) 0
+    content = getD za (byteOf S (bytesOf size) t d j k i) 0
 
     inCall : ℕ → Call
     inCall k = callBy (inward size d t) (ins k)
@@ -136,10 +143,10 @@ columns-by-choices B size d t ins outs rows columns za first between last valid 
     row-is : c .row j hj .call ≡ inCall j
     row-is =
         once-call (c .row j hj) (row-place .before) (row-place .after) (inCall j) (row-place .place)
-        (goes-in B size valid j (ins j) (run (row-place .before) za) (run-long (row-place .before) za ∙ long) d t tile (readyIn j hj))
+        (goes-in S B size fits j (ins j) (run (row-place .before) za) (run-long (row-place .before) za ∙ long) d t tile (readyIn j hj))
 
     row-decodes : decodedOf (inCall j) ≡ decoded.Done (inward size d t (ins j))
-    row-decodes = inward-decodes B size d t tile j (ins j) (readyIn j hj)
+    row-decodes = inward-decodes S B size d t tile j (ins j) (readyIn j hj)
 
     -- the call of column k
     column-place : Placed (callsAmong size d t ins outs rows columns first between last) (outCall k)
@@ -148,10 +155,10 @@ columns-by-choices B size d t ins outs rows columns za first between last valid 
     column-is : c .column k hk .call ≡ outCall k
     column-is =
         once-call (c .column k hk) (column-place .before) (column-place .after) (outCall k) (column-place .place)
-        (comes-out B size valid k (outs k) (run (column-place .before) za) (run-long (column-place .before) za ∙ long) (flip d) t tile (readyOut k hk))
+        (comes-out S B size fits k (outs k) (run (column-place .before) za) (run-long (column-place .before) za ∙ long) (flip d) t tile (readyOut k hk))
 
     register : registerOf (c .column k hk .call) ≡ outs k .register
-    register = ap registerOf column-is ∙ ap registerIn (outward-decodes B size (flip d) t tile k (outs k) (readyOut k hk))
+    register = ap registerOf column-is ∙ ap registerIn (outward-decodes S B size (flip d) t tile k (outs k) (readyOut k hk))
 
 -- ---- bytes
 
@@ -215,7 +222,7 @@ column-long Vertical k h = eqb-true _ 32 (passes (λ k. eqb (length (getD (colum
 
 module _ (d : Direction) (c : Crossed 32 32 Bits32 d 1 (shownCalls d) (zaAt 32)) where
   back-byte : (k q : ℕ) (h : k < 8) → q < 32 → getD (zAfter d c k h) ((7 + 3 * k) * 32 + q) 0 ≡ byteBack d k q
-  unfolding isVectorLength byteBack
+  unfolding byteBack
   back-byte k q h w =
       let j = q / 4 in
       let i = q % 4 in
@@ -225,7 +232,7 @@ module _ (d : Direction) (c : Crossed 32 32 Bits32 d 1 (shownCalls d) (zaAt 32))
       let first = getD (zaAt 32) (byteOf 32 4 1 d j k i) 0 in
       let at : (7 + 3 * k) * 32 + q ≡ (7 + 3 * k) * 32 + (j * 4 + i) = omega arith in
       ap (λ (p : ℕ). getD (zAfter d c k h) p 0) at ∙
-      columns-by-choices 32 Bits32 d 1 shownRow shownColumn shownRows shownColumns (zaAt 32) refusedCalls refusedCalls (refusedCalls ++ []) refl (omega arith) refl row-ready column-ready rows-once columns-once c k j i h hj hi ∙
+      columns-by-choices 32 32 Bits32 d 1 shownRow shownColumn shownRows shownColumns (zaAt 32) refusedCalls refusedCalls (refusedCalls ++ []) fitting-32 (omega arith) refl row-ready column-ready rows-once columns-once c k j i h hj hi ∙
       ap (λ (b : ℕ). cond (eqb (b / 2 ^ (k * 4 % 8) % 2) 1) (getD (shownZ j) ((31 - 4 * j) * 32 + (k * 4 + i)) 0) first) (byte-from j 64 ((7 - j) * 4 + k * 4 / 8) (omega arith)) ∙
       ap (λ (b : ℕ). cond active b first) (byte-from j 1024 ((31 - 4 * j) * 32 + (k * 4 + i)) (omega arith)) ∙
       ap (cond active (byteFrom j ((31 - 4 * j) * 32 + (k * 4 + i)))) (byte-from 97 1024 (byteOf 32 4 1 d j k i) (byteOf-below d j k i hj h hi))

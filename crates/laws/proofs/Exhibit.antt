@@ -13,7 +13,9 @@ use lib.ListN.{length, getD, set, replicate, length-set, length-replicate}
 use lib.Seq.{getD-set-same}
 use borrow.Author.Tests.{eqb-true, eqb-false}
 use Rattle.general.proofs.LeastLaws.{none-some}
-use Rattle.settings.specs.Settings.{isVectorLength, maxLevel, maxVectorBytes}
+use Rattle.settings.specs.Settings.{maxLevel, maxVectorBytes, strideOf}
+use Rattle.settings.specs.Claims.{Fitting}
+use Rattle.settings.proofs.Claims.{is-five-lengths, vectors-fit}
 use Rattle.tiles.specs.Element.{bytesOf}
 use Rattle.encoding.specs.Codec.{rowOfNumbers, decodeOf, encodeOf}
 use Rattle.encoding.specs.Answer.{encodedAnswer}
@@ -76,14 +78,14 @@ offsets-counted Bits64 = refl
 offsets-counted Bits128 = refl
 
 -- the words of ready choices
-module _ (B : ℕ) (size : ElementSize) (d : Direction) (t : ℕ) (tile : t < bytesOf size) (k : ℕ) (h : Choice) where
-  pub inward-decodes : Ready 1 B size k h → decodedOf (callBy (inward size d t) h) ≡ decoded.Done (inward size d t h)
+module _ (S B : ℕ) (size : ElementSize) (d : Direction) (t : ℕ) (tile : t < bytesOf size) (k : ℕ) (h : Choice) where
+  pub inward-decodes : Ready 1 S B size k h → decodedOf (callBy (inward size d t) h) ≡ decoded.Done (inward size d t h)
   inward-decodes ready =
       word-decodes (inward size d t h) _ (h .settings .level)
       (to-tile-encodes d (h .index) (h .predicate) (h .register) t (h .offset) size _ (omega (arith, offsets-counted size)) refl .equal)
       (omega (arith, inward-level size d t h, ready .level)) (ready .level .1)
 
-  pub outward-decodes : Ready 3 B size k h → decodedOf (callBy (outward size d t) h) ≡ decoded.Done (outward size d t h)
+  pub outward-decodes : Ready 3 S B size k h → decodedOf (callBy (outward size d t) h) ≡ decoded.Done (outward size d t h)
   outward-decodes ready =
       word-decodes (outward size d t h) _ (h .settings .level)
       (from-tile-encodes d 0 (h .index) t (h .offset) (h .register) true size _ (omega (arith, offsets-counted size)) refl .equal)
@@ -135,9 +137,10 @@ selects n k index offset h few low small =
     again = omega arith
 
 pub choices-exist : ChoicesExist
-choices-exist least B level size k index offset predicate register valid from upTo h low high o p r =
+choices-exist least S B level size k index offset predicate register fits from upTo h low high o p r =
     record {
       vector = refl;
+      largest = refl;
       level = (from, upTo);
       streaming = refl;
       za = refl;
@@ -145,40 +148,49 @@ choices-exist least B level size k index offset predicate register valid from up
       offsets = o;
       predicates = p;
       registers = r;
-      slice = selects (slicesOf B size) k index offset h (whole-elements size B valid .few) high (omega (arith, div-le-self 16 (bytesOf size)));
+      slice = selects (slicesOf B size) k index offset h (whole-elements size B (is-five-lengths B .1 (fits .vector)) .few) high (omega (arith, div-le-self 16 (bytesOf size)));
       xs = length-set (replicate 32 0) index _;
-      zs = length-replicate (32 * B) 0;
-      ps = length-replicate (16 * (B / 8)) 255;
+      zs = length-replicate (32 * S) 0;
+      ps = length-replicate (16 * (S / 8)) 255;
       memory = omega arith;
     }
 
 -- ---- one call
 
-module _ (B : ℕ) (size : ElementSize) (valid : isVectorLength B ≡ true) (k : ℕ) (h : Choice) (za : List ℕ) (long : length za ≡ B * B) where
+module _ (S B : ℕ) (size : ElementSize) (fits : Fitting B S) (k : ℕ) (h : Choice) (za : List ℕ) (long : length za ≡ S * S) where
   -- a call whose operation is never refused is done
-  call-done : (least : ℕ) → Ready least B size k h → (o : Choice → Operation) → decodedOf (callBy o h) ≡ decoded.Done (o h) → operationAnswer (h .settings) (h .x) (h .p) (length (h .memory)) (o h) ≡ Done → moved (callBy o h) za ≡ some (moveOf (callBy o h) (o h))
+  call-done : (least : ℕ) → Ready least S B size k h → (o : Choice → Operation) → decodedOf (callBy o h) ≡ decoded.Done (o h) → operationAnswer (h .settings) (h .x) (h .p) (length (h .memory)) (o h) ≡ Done → moved (callBy o h) za ≡ some (moveOf (callBy o h) (o h))
   unfolding moved
   call-done least ready o decodes ans =
       let c = callBy o h in
       let sized : SizedAt (h .settings) (stateWith c za) =
-      record { vector = rw (ready .vector) valid; level = ready .level .1; x = ready .xs; z = rw (ready .vector) (ready .zs); p = rw (ready .vector) (ready .ps); za = rw (ready .vector) long; memory = ready .memory } in
+      record {
+        vectors = vectors-fit (h .settings) .1 (rw (ready .vector, ready .largest) fits);
+        level = ready .level .1;
+        x = ready .xs;
+        z = rw (ready .largest) (ready .zs);
+        p = rw (ready .largest) (ready .ps);
+        za = rw (ready .largest) long;
+        memory = ready .memory;
+      } in
       ap (λ (a : Executed). ifDone a none (decodedMove c (decodedOf c))) (operation-answer (h .settings) (wordFor (o h)) (stateWith c za) (o h) sized decodes (ready .streaming) (ready .za) ∙ ans) ∙
       ap (decodedMove c) decodes
 
+  -- its move is on slice k, with vectors of B bytes that start S apart
+  on-slice : (least : ℕ) → Ready least S B size k h → (move : ℕ → ℕ → ℕ → Move) → some (move (strideOf (h .settings)) (h .settings .«vector_bytes») (selected (h .x) (h .index) (h .offset) (h .settings .«vector_bytes» / bytesOf size))) ≡ some (move S B k)
+  on-slice least ready move =
+      ap (λ (s : ℕ). some (move s (h .settings .«vector_bytes») (selected (h .x) (h .index) (h .offset) (h .settings .«vector_bytes» / bytesOf size)))) (ready .largest) ∙
+      ap (λ (b : ℕ). some (move S b (selected (h .x) (h .index) (h .offset) (b / bytesOf size)))) (ready .vector) ∙
+      ap (λ (j : ℕ). some (move S B j)) (ready .slice)
+
   module _ (d : Direction) (t : ℕ) (tile : t < bytesOf size) where
     -- the call of a ready choice moves into its slice
-    pub goes-in : Ready 1 B size k h → moved (callBy (inward size d t) h) za ≡ some (into B B size d t k)
-    goes-in ready =
-        call-done 1 ready (inward size d t) (inward-decodes B size d t tile k h ready) refl ∙
-        ap (λ (b : ℕ). some (into b b size d t (selected (h .x) (h .index) (h .offset) (b / bytesOf size)))) (ready .vector) ∙
-        ap (λ (j : ℕ). some (into B B size d t j)) (ready .slice)
+    pub goes-in : Ready 1 S B size k h → moved (callBy (inward size d t) h) za ≡ some (into S B size d t k)
+    goes-in ready = call-done 1 ready (inward size d t) (inward-decodes S B size d t tile k h ready) refl ∙ on-slice 1 ready (λ s b j. into s b size d t j)
 
     -- or out of it
-    pub comes-out : Ready 3 B size k h → moved (callBy (outward size d t) h) za ≡ some (out B B size d t k)
-    comes-out ready =
-        call-done 3 ready (outward size d t) (outward-decodes B size d t tile k h ready) refl ∙
-        ap (λ (b : ℕ). some (out b b size d t (selected (h .x) (h .index) (h .offset) (b / bytesOf size)))) (ready .vector) ∙
-        ap (λ (j : ℕ). some (out B B size d t j)) (ready .slice)
+    pub comes-out : Ready 3 S B size k h → moved (callBy (outward size d t) h) za ≡ some (out S B size d t k)
+    comes-out ready = call-done 3 ready (outward size d t) (outward-decodes S B size d t tile k h ready) refl ∙ on-slice 3 ready (λ s b j. out s b size d t j)
 
 -- the moves of calls on slices below n, each of which is done with its own move at any ZA of a length
 list-moves : (n long : ℕ) (call : ℕ → Call) (f : ℕ → Move) → ((k : ℕ) (za : List ℕ) → k < n → length za ≡ long → moved (call k) za ≡ some (f k)) → (l : List ℕ) (rest : List Call) (za : List ℕ) → Below n l → length za ≡ long → moves (map call l ++ rest) za ≡ map f l ++ moves rest (run (map call l) za)
@@ -192,7 +204,7 @@ list-moves n long call f h (x ∷ l) rest za b e =
 
 pub lists-exist : ListsExist
 unfolding moves
-lists-exist B size d t ins outs rows columns za valid tile long-za readyIn readyOut eachRow belowRow eachColumn belowColumn =
+lists-exist S B size d t ins outs rows columns za fits tile long-za readyIn readyOut eachRow belowRow eachColumn belowColumn =
     record { rows = rows; columns = columns; order = order; eachRow = eachRow; eachColumn = eachColumn }
   where
     n : ℕ
@@ -208,16 +220,16 @@ lists-exist B size d t ins outs rows columns za valid tile long-za readyIn ready
     za₁ = run (map inCall rows) za
 
     -- the second half, which nothing follows
-    last : moves (map outCall columns) za₁ ≡ map (out B B size (flip d) t) columns
+    last : moves (map outCall columns) za₁ ≡ map (out S B size (flip d) t) columns
     last =
         ap (λ (l : List Call). moves l za₁) (sym (append-nil (map outCall columns))) ∙
-        list-moves n (B * B) outCall (out B B size (flip d) t) (λ k a h e. comes-out B size valid k (outs k) a e (flip d) t tile (readyOut k h)) columns [] za₁ belowColumn (run-long (map inCall rows) za ∙ long-za) ∙
-        append-nil (map (out B B size (flip d) t) columns)
+        list-moves n (S * S) outCall (out S B size (flip d) t) (λ k a h e. comes-out S B size fits k (outs k) a e (flip d) t tile (readyOut k h)) columns [] za₁ belowColumn (run-long (map inCall rows) za ∙ long-za) ∙
+        append-nil (map (out S B size (flip d) t) columns)
 
-    order : moves (crossingCalls size d t ins outs rows columns) za ≡ map (into B B size d t) rows ++ map (out B B size (flip d) t) columns
+    order : moves (crossingCalls size d t ins outs rows columns) za ≡ map (into S B size d t) rows ++ map (out S B size (flip d) t) columns
     order =
-        list-moves n (B * B) inCall (into B B size d t) (λ k a h e. goes-in B size valid k (ins k) a e d t tile (readyIn k h)) rows (map outCall columns) za belowRow long-za ∙
-        ap (λ (l : List Move). map (into B B size d t) rows ++ l) last
+        list-moves n (S * S) inCall (into S B size d t) (λ k a h e. goes-in S B size fits k (ins k) a e d t tile (readyIn k h)) rows (map outCall columns) za belowRow long-za ∙
+        ap (λ (l : List Move). map (into S B size d t) rows ++ l) last
 
 -- ---- refused calls
 

@@ -5,10 +5,11 @@ use mathlib.Core.Path.{_≡_, sym, ap, subst}
 use mathlib.Core.List.{List}
 use mathlib.Core.Bool.{true}
 use mathlib.Core.Option.{some}
-use native.Mathlib.Nat.{le-refl, mod-lt, mul-le-mul-right, suc-mul}
+use native.Mathlib.Nat.{mod-lt, mul-le-mul-right, suc-mul}
 use native.Mathlib.Omega.{arith}
 use lib.ListN.{length, getD}
-use Rattle.settings.specs.Settings.{isVectorLength}
+use Rattle.settings.specs.Settings.{isVectorLength, strideOf}
+use Rattle.settings.proofs.SettingsLaws.{vector-valid, stride-fits}
 use Rattle.tiles.specs.Element.{bytesOf}
 use Rattle.tiles.specs.declared.element.ElementSize.{ElementSize}
 use Rattle.tiles.specs.declared.direction.Direction.{Direction}
@@ -29,7 +30,7 @@ module _ (c : Call) (za : List ℕ) where
   pub record Into (S B : ℕ) (size : ElementSize) (d : Direction) (t k : ℕ) : Type 0 where
     pub vector : isVectorLength B ≡ true
     pub fits : B ≤ S
-    pub long : length za ≡ B * S
+    pub long : B * S ≤ length za
     pub tile : t < bytesOf size
     pub within : k < B / bytesOf size
     pub is : zaAfter c za ≡ scatter (sliceAt S (bytesOf size) t d k) (active (c .p) (predicateOf c * (S / 8)) (bytesOf size)) (λ (j : ℕ). getD (c .z) (registerOf c * S + j) 0) B za
@@ -37,7 +38,7 @@ module _ (c : Call) (za : List ℕ) where
   -- a call that takes slice k of a tile
   pub record Out (S B : ℕ) (size : ElementSize) (d : Direction) (t k : ℕ) : Type 0 where
     pub vector : isVectorLength B ≡ true
-    pub long : length za ≡ B * S
+    pub long : B * S ≤ length za
     pub tile : t < bytesOf size
     pub within : k < B / bytesOf size
     pub room : registerOf c * S + B ≤ length (c .z)
@@ -52,31 +53,39 @@ module _ (c : Call) (za : List ℕ) where
   slice-within : (B : ℕ) (size : ElementSize) (a : ℕ) → isVectorLength B ≡ true → a % (B / bytesOf size) < B / bytesOf size
   slice-within B size a h = mod-lt a (whole-elements size B h .slices)
 
-  register-room : (v B : ℕ) (l : List ℕ) → v < 32 → length l ≡ 32 * B → v * B + B ≤ length l
-  register-room v B l h e =
-      let w : suc v * B ≤ 32 * B = mul-le-mul-right B h in
-      omega (arith, suc-mul v B)
+  register-room : (v B S : ℕ) (l : List ℕ) → v < 32 → B ≤ S → length l ≡ 32 * S → v * S + B ≤ length l
+  register-room v B S l h f e =
+      let w : suc v * S ≤ 32 * S = mul-le-mul-right S h in
+      omega (arith, suc-mul v S)
+
+  -- ZA has the vectors of the tile
+  vectors-room : (B S n : ℕ) → B ≤ S → n ≡ S * S → B * S ≤ n
+  vectors-room B S n f e = omega (arith, mul-le-mul-right S f)
 
   facts : (o : Operation) → DoesCall c za o → Facts (moveOf c o)
   unfolding writesOf valuesOf effectOf
   facts (MovaToTile o) d =
       let r = decoded-in-range (c .word) (c .settings .level) (MovaToTile o) (d .decoded) in
+      let v = vector-valid (c .settings) (d .sized .vectors) in
+      let f = stride-fits (c .settings) (d .sized .vectors) .fit in
       record {
-        vector = d .sized .vector;
-        fits = le-refl (c .settings .«vector_bytes»);
-        long = d .sized .za;
+        vector = v;
+        fits = f;
+        long = vectors-room _ _ _ f (d .sized .za);
         tile = r .slice .tile;
-        within = slice-within _ (o .slice .size) _ (d .sized .vector);
+        within = slice-within _ (o .slice .size) _ v;
         is = rw (d .decoded) (ap (λ (t : State). t .za) (d .state));
       }
   facts (MovazFromTile o) d =
       let r = decoded-in-range (c .word) (c .settings .level) (MovazFromTile o) (d .decoded) in
+      let v = vector-valid (c .settings) (d .sized .vectors) in
+      let f = stride-fits (c .settings) (d .sized .vectors) .fit in
       record {
-        vector = d .sized .vector;
-        long = d .sized .za;
+        vector = v;
+        long = vectors-room _ _ _ f (d .sized .za);
         tile = r .slice .tile;
-        within = slice-within _ (o .slice .size) _ (d .sized .vector);
-        room = rw (d .decoded) (register-room (o .zd) (c .settings .«vector_bytes») (c .z) (r .vector) (d .sized .z));
+        within = slice-within _ (o .slice .size) _ v;
+        room = rw (d .decoded) (register-room (o .zd) (c .settings .«vector_bytes») (strideOf (c .settings)) (c .z) (r .vector) f (d .sized .z));
         takes = rw (d .decoded) (ap (λ (t : State). t .z) (d .state));
         is = ap (λ (t : State). t .za) (d .state);
       }

@@ -10,7 +10,9 @@ use lib.Dec.{eqb}
 use borrow.Author.Tests.{eqb-true, not-false}
 use Rattle.general.proofs.LeastLaws.{least-none}
 use lib.ListN.{length, getD, length-set}
-use Rattle.settings.specs.Settings.{isVectorLength}
+use Rattle.settings.specs.Settings.{isVectorLength, settingsOf}
+use Rattle.settings.specs.Claims.{Fitting}
+use Rattle.settings.proofs.Claims.{vectors-fit}
 use Rattle.encoding.specs.Table.{table}
 use Rattle.encoding.specs.Codec.{rowOfWord, decodeOf}
 use Rattle.tiles.specs.declared.element.ElementSize.{ElementSize}
@@ -67,11 +69,12 @@ abbrev sliceOf : Choice → ℕ
 sliceOf h = (getD (h .x) (h .index) 0 % 2 ^ 32 + h .offset) % 8
 
 -- every call of the list is on its slice, and done
-pub row-ready : (k : ℕ) → k < 8 → Ready 1 32 Bits32 k (shownRow k)
+pub row-ready : (k : ℕ) → k < 8 → Ready 1 32 32 Bits32 k (shownRow k)
 unfolding least
 row-ready k h =
     record {
       vector = refl;
+      largest = refl;
       level = omega arith;
       streaming = refl;
       za = refl;
@@ -86,11 +89,12 @@ row-ready k h =
       memory = omega (arith, bytes-length 200 (suc k));
     }
 
-pub column-ready : (k : ℕ) → k < 8 → Ready 3 32 Bits32 k (shownColumn k)
+pub column-ready : (k : ℕ) → k < 8 → Ready 3 32 32 Bits32 k (shownColumn k)
 unfolding least
 column-ready k h =
     record {
       vector = refl;
+      largest = refl;
       level = omega arith;
       streaming = refl;
       za = refl;
@@ -114,10 +118,13 @@ pub columns-once : EachOnce 8 shownColumns
 unfolding occurrences least
 columns-once = record { many = refl; once = once shownColumns refl }
 
-plain : (d : Direction) → Crosses 32 32 Bits32 d 1 (shownIn d ++ shownOut d) (zaAt 32)
+pub fitting-32 : Fitting 32 32
 unfolding isVectorLength
+fitting-32 = vectors-fit (settingsOf 32 32 0) .0 refl
+
+plain : (d : Direction) → Crosses 32 32 Bits32 d 1 (shownIn d ++ shownOut d) (zaAt 32)
 plain d =
-    lists-exist 32 Bits32 d 1 shownRow shownColumn shownRows shownColumns (zaAt 32) refl (omega arith) refl row-ready column-ready
+    lists-exist 32 32 Bits32 d 1 shownRow shownColumn shownRows shownColumns (zaAt 32) fitting-32 (omega arith) refl row-ready column-ready
     rows-once (omega arith, (omega arith, (omega arith, (omega arith, (omega arith, (omega arith, (omega arith, (omega arith, tt {0}))))))))
     columns-once (omega arith, (omega arith, (omega arith, (omega arith, (omega arith, (omega arith, (omega arith, (omega arith, tt {0}))))))))
 

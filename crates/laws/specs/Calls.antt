@@ -51,8 +51,8 @@ numbersAt cs za = map (λ (c : Call). executedNumber (outcome c za .answer)) cs
 abbrev pub decodedOf : Call → Decoded
 decodedOf c = decodeOf (c .word) (c .settings .level)
 
--- what an operation is to a tile: how far apart vectors start (S) and how long they are (B), which are equal for now; size,
--- direction and tile; and the slice that W and the offset give
+-- what an operation is to a tile: how far apart vectors start (S) and how long they are (B); size, direction and tile; and the slice
+-- that W and the offset give
 pub data Move : Type 0 where
   into : (S B : ℕ) (size : ElementSize) (d : Direction) (t slice : ℕ) → Move
   out : (S B : ℕ) (size : ElementSize) (d : Direction) (t slice : ℕ) → Move

@@ -32,8 +32,9 @@ slicesOf B size = B / bytesOf size
 
 -- Which lists of calls are meant: with whatever refused calls between them, the done calls move first into the slices of one
 -- tile in direction d, each once, and then out of its slices in the other direction, each once, all with vectors B bytes long
--- that start S bytes apart. Nothing else is assumed: each call has settings of its own, a done move shows that its level is from
--- 1 to 3, a done move and zero that it is 3, and a done call that its switches are on and its lengths and registers right.
+-- that start S bytes apart. That they share B is assumed here; ZA's length shows S alone (request 12). Nothing else is assumed: each
+-- call has settings of its own, a done move shows that its level is from 1 to 3, a done move and zero that it is 3, and a done call
+-- that its switches are on and its lengths and registers right.
 pub record Crosses (S B : ℕ) (size : ElementSize) (d : Direction) (t : ℕ) (cs : List Call) (za : List ℕ) : Type 0 where
   pub rows : List ℕ
   pub columns : List ℕ
@@ -69,6 +70,6 @@ pub record Crossed (S B : ℕ) (size : ElementSize) (d : Direction) (t : ℕ) (c
   pub kept : (p : ℕ) → Outside S (bytesOf size) (slicesOf B size) t p → getD (run cs za) p 0 ≡ getD za p 0
   pub long : length (run cs za) ≡ length za
 
--- the law: for every vector length, size, tile and direction; columns first and rows last is the other direction
+-- the law: for every vector length, largest vector length, size, tile and direction; columns first and rows last is the other direction
 abbrev pub CrossingLaw : Type 0
 CrossingLaw = (S B : ℕ) (size : ElementSize) (d : Direction) (t : ℕ) (cs : List Call) (za : List ℕ) → Crosses S B size d t cs za → Crossed S B size d t cs za

@@ -3,11 +3,11 @@
 -- Assumes nothing.
 use Prim.Native.Nat.{ℕ, zero, suc, _+_, _*_, _/_, _%_, _<_}
 use mathlib.Core.Path.{_≡_}
-use mathlib.Core.Bool.{true, cond}
+use mathlib.Core.Bool.{cond, _&&_}
 use mathlib.Core.List.{List, [], _∷_, _++_, map}
-use lib.Dec.{eqb}
+use lib.Dec.{eqb, ltb}
 use lib.ListN.{length, getD, replicate}
-use Rattle.settings.specs.Settings.{isVectorLength}
+use Rattle.settings.specs.Claims.{Fitting}
 use Rattle.tiles.specs.Element.{bytesOf}
 use Rattle.tiles.specs.Predicate.{bit}
 use Rattle.tiles.specs.Tile.{byteOf}
@@ -23,13 +23,14 @@ use Rattle.laws.specs.Shown.{shownCalls}
 
 -- ---- of any list
 
--- ZA afterwards: the vectors of the tile, every m-th from t on, lie in it and are zero, the others are as they were
+-- ZA afterwards: of the first B vectors those of the tile, every m-th from t on, lie in it and are zero in their first B bytes; every other byte is as it was, those
+-- beyond B of any vector and the vectors from B on among them
 abbrev pub VectorsAfter : Type 0
 VectorsAfter =
-    (B : ℕ) (size : ElementSize) (d : Direction) (t : ℕ) (cs : List Call) (za : List ℕ) → isVectorLength B ≡ true → t < bytesOf size →
-    Crossed B B size d t cs za → (v q : ℕ) → v < B → q < B →
-    (getD (run cs za) (v * B + q) 0 ≡ cond (eqb (v % bytesOf size) t) 0 (getD za (v * B + q) 0)) ×
-    (v % bytesOf size ≡ t → v * B + q < length (run cs za))
+    (S B : ℕ) (size : ElementSize) (d : Direction) (t : ℕ) (cs : List Call) (za : List ℕ) → Fitting B S → t < bytesOf size →
+    Crossed S B size d t cs za → (v q : ℕ) → q < S →
+    (getD (run cs za) (v * S + q) 0 ≡ cond (ltb v B && ltb q B && eqb (v % bytesOf size) t) 0 (getD za (v * S + q) 0)) ×
+    (v < B → q < B → v % bytesOf size ≡ t → v * S + q < length (run cs za))
 
 -- ---- of lists by choices
 
@@ -41,16 +42,16 @@ callsAmong size d t ins outs rows columns first between last =
 -- byte i of element j of the register of column k is by the choices of row j
 abbrev pub ColumnsByChoices : Type 0
 ColumnsByChoices =
-    (B : ℕ) (size : ElementSize) (d : Direction) (t : ℕ) (ins outs : ℕ → Choice) (rows columns za : List ℕ) (first between last : List Call) →
-    isVectorLength B ≡ true → t < bytesOf size → length za ≡ B * B →
-    ((k : ℕ) → k < slicesOf B size → Ready 1 B size k (ins k)) → ((k : ℕ) → k < slicesOf B size → Ready 3 B size k (outs k)) →
+    (S B : ℕ) (size : ElementSize) (d : Direction) (t : ℕ) (ins outs : ℕ → Choice) (rows columns za : List ℕ) (first between last : List Call) →
+    Fitting B S → t < bytesOf size → length za ≡ S * S →
+    ((k : ℕ) → k < slicesOf B size → Ready 1 S B size k (ins k)) → ((k : ℕ) → k < slicesOf B size → Ready 3 S B size k (outs k)) →
     EachOnce (slicesOf B size) rows → EachOnce (slicesOf B size) columns →
-    (c : Crossed B B size d t (callsAmong size d t ins outs rows columns first between last) za) →
+    (c : Crossed S B size d t (callsAmong size d t ins outs rows columns first between last) za) →
     (k j i : ℕ) (hk : k < slicesOf B size) → j < slicesOf B size → i < bytesOf size →
-    getD (outcome (c .column k hk .call) (run (c .column k hk .before) za) .state .z) (outs k .register * B + (j * bytesOf size + i)) 0 ≡
-    cond (bit (ins j .p) (ins j .predicate * (B / 8)) (k * bytesOf size))
-    (getD (ins j .z) (ins j .register * B + (k * bytesOf size + i)) 0)
-    (getD za (byteOf B (bytesOf size) t d j k i) 0)
+    getD (outcome (c .column k hk .call) (run (c .column k hk .before) za) .state .z) (outs k .register * S + (j * bytesOf size + i)) 0 ≡
+    cond (bit (ins j .p) (ins j .predicate * (S / 8)) (k * bytesOf size))
+    (getD (ins j .z) (ins j .register * S + (k * bytesOf size + i)) 0)
+    (getD za (byteOf S (bytesOf size) t d j k i) 0)
 
 -- ---- of the list of Shown.antt
 

@@ -1,5 +1,5 @@
--- Lists of calls to which the crossing law applies, so that it is seen not to be empty: for every vector length, element size,
--- tile and direction, every order of the slices, every index register, offset, predicate and vector register that a word can
+-- Lists of calls to which the crossing law applies, so that it is seen not to be empty: for every vector length and every largest one,
+-- every element size, tile and direction, every order of the slices, every index register, offset, predicate and vector register that a word can
 -- name, every level at which its word decodes (1 to 3 into a tile, 3 out of it), and any content of X, of the vectors, of the
 -- predicates, of memory and of ZA; and refused calls in them.
 -- Assumes nothing.
@@ -8,7 +8,8 @@ use mathlib.Core.Path.{_≡_}
 use mathlib.Core.Bool.{true}
 use mathlib.Core.List.{List, [], _∷_, _++_, map}
 use lib.ListN.{length, getD, set, replicate}
-use Rattle.settings.specs.Settings.{isVectorLength, maxLevel, settingsOf}
+use Rattle.settings.specs.Settings.{maxLevel, settingsOf}
+use Rattle.settings.specs.Claims.{Fitting}
 use Rattle.settings.specs.declared.Settings.{Settings}
 use Rattle.tiles.specs.Element.{bytesOf}
 use Rattle.encoding.specs.Answer.{encodedWord}
@@ -59,9 +60,10 @@ callsOut size d t outs columns = map (λ (k : ℕ). callBy (outward size (flip d
 abbrev pub crossingCalls : ElementSize → Direction → ℕ → (ℕ → Choice) → (ℕ → Choice) → List ℕ → List ℕ → List Call
 crossingCalls size d t ins outs rows columns = callsIn size d t ins rows ++ callsOut size d t outs columns
 
--- what a call needs so as to be done with vectors of B bytes, and to be on slice k; its word decodes from a least level on
-pub record Ready (least B : ℕ) (size : ElementSize) (k : ℕ) (h : Choice) : Type 0 where
+-- what a call needs so as to be done with vectors of B bytes in buffers for vectors of S, and to be on slice k; its word decodes from a least level on
+pub record Ready (least S B : ℕ) (size : ElementSize) (k : ℕ) (h : Choice) : Type 0 where
   pub vector : h .settings .«vector_bytes» ≡ B
+  pub largest : h .settings .«largest_vector_bytes» ≡ S
   pub level : (least ≤ h .settings .level) × (h .settings .level ≤ maxLevel)
   pub streaming : h .settings .streaming ≡ true
   pub za : h .settings .za ≡ true
@@ -74,8 +76,8 @@ pub record Ready (least B : ℕ) (size : ElementSize) (k : ℕ) (h : Choice) : T
   pub slice : (getD (h .x) (h .index) 0 % 2 ^ 32 + h .offset) % slicesOf B size ≡ k
   -- the lengths are right
   pub xs : length (h .x) ≡ 32
-  pub zs : length (h .z) ≡ 32 * B
-  pub ps : length (h .p) ≡ 16 * (B / 8)
+  pub zs : length (h .z) ≡ 32 * S
+  pub ps : length (h .p) ≡ 16 * (S / 8)
   pub memory : h .settings .«memory_address» + length (h .memory) ≤ 2 ^ 64
 
 -- every number of a list is below n
@@ -83,37 +85,37 @@ abbrev pub Below : ℕ → List ℕ → Type 0
 Below n [] = Unit {0}
 Below n (x ∷ l) = (x < n) × Below n l
 
--- such calls, in any order of the slices, are a list that is meant: each with a level of its own, from 1 on into the tile and 3 out of it; vectors
--- start as far apart as they are long
+-- such calls, in any order of the slices, are a list that is meant, for each of the fifteen pairs of a vector length and a largest one: each with a level of its
+-- own, from 1 on into the tile and 3 out of it
 abbrev pub ListsExist : Type 0
 ListsExist =
-    (B : ℕ) (size : ElementSize) (d : Direction) (t : ℕ) (ins outs : ℕ → Choice) (rows columns za : List ℕ) →
-    isVectorLength B ≡ true → t < bytesOf size → length za ≡ B * B →
-    ((k : ℕ) → k < slicesOf B size → Ready 1 B size k (ins k)) → ((k : ℕ) → k < slicesOf B size → Ready 3 B size k (outs k)) →
+    (S B : ℕ) (size : ElementSize) (d : Direction) (t : ℕ) (ins outs : ℕ → Choice) (rows columns za : List ℕ) →
+    Fitting B S → t < bytesOf size → length za ≡ S * S →
+    ((k : ℕ) → k < slicesOf B size → Ready 1 S B size k (ins k)) → ((k : ℕ) → k < slicesOf B size → Ready 3 S B size k (outs k)) →
     EachOnce (slicesOf B size) rows → Below (slicesOf B size) rows → EachOnce (slicesOf B size) columns → Below (slicesOf B size) columns →
-    Crosses B B size d t (crossingCalls size d t ins outs rows columns) za
+    Crosses S B size d t (crossingCalls size d t ins outs rows columns) za
 
 -- for every slice there are such choices, whichever level they have and index register, offset, predicate and vector register they name: here with
 -- an X that is zero but for the index register
-abbrev pub choiceOf : ℕ → ℕ → ElementSize → ℕ → ℕ → ℕ → ℕ → ℕ → Choice
-choiceOf B level size k index offset predicate register =
+abbrev pub choiceOf : ℕ → ℕ → ℕ → ElementSize → ℕ → ℕ → ℕ → ℕ → ℕ → Choice
+choiceOf S B level size k index offset predicate register =
     record {
       index = index;
       offset = offset;
       predicate = predicate;
       register = register;
-      settings = switched (settingsOf B level) true true;
+      settings = switched (settingsOf B S level) true true;
       x = set (replicate 32 0) index (k + slicesOf B size * 16 - offset);
-      z = replicate (32 * B) 0;
-      p = replicate (16 * (B / 8)) 255;
+      z = replicate (32 * S) 0;
+      p = replicate (16 * (S / 8)) 255;
       memory = [];
     }
 
 abbrev pub ChoicesExist : Type 0
 ChoicesExist =
-    (least B level : ℕ) (size : ElementSize) (k index offset predicate register : ℕ) → isVectorLength B ≡ true → least ≤ level → level ≤ maxLevel →
+    (least S B level : ℕ) (size : ElementSize) (k index offset predicate register : ℕ) → Fitting B S → least ≤ level → level ≤ maxLevel →
     k < slicesOf B size → 12 ≤ index → index ≤ 15 → offset < 16 / bytesOf size → predicate < 8 → register < 32 →
-    Ready least B size k (choiceOf B level size k index offset predicate register)
+    Ready least S B size k (choiceOf S B level size k index offset predicate register)
 
 -- an order of the slices: downwards
 abbrev pub downFrom : ℕ → List ℕ

@@ -36,7 +36,7 @@ shownRow k =
       offset = suc k % 4;
       predicate = 7 - k;
       register = 31 - 4 * k;
-      settings = withMemoryAddress (switched (settingsOf 32 (1 + k % 3)) true true) (2 ^ 64 - suc k);
+      settings = withMemoryAddress (switched (settingsOf 32 32 (1 + k % 3)) true true) (2 ^ 64 - suc k);
       x = xWith (12 + k % 4) (3 * 2 ^ 32 + k - suc k % 4);
       z = shownZ k;
       p = shownP k;
@@ -67,8 +67,8 @@ refusedCalls =
     refusedAt (settingsAt 17 0) 0xC0000000 (replicate 32 0) ∷
     refusedAt (settingsAt 32 0) 0xC0000000 [] ∷
     refusedAt (settingsAt 32 0) 0xC0000010 (replicate 32 0) ∷
-    refusedAt (switched (settingsOf 32 3) false true) 0xC0000000 (replicate 32 0) ∷
-    refusedAt (switched (settingsOf 32 3) true false) 0xC0000000 (replicate 32 0) ∷
+    refusedAt (switched (settingsOf 32 32 3) false true) 0xC0000000 (replicate 32 0) ∷
+    refusedAt (switched (settingsOf 32 32 3) true false) 0xC0000000 (replicate 32 0) ∷
     refusedAt (settingsAt 32 0) 0xE03F03E0 (set (replicate 32 0) 31 0x1008) ∷
     refusedAt (settingsAt 32 0) 0xE0220020 (replicate 32 0) ∷
     refusedAt (settingsAt 32 0) 0xE01F03E0 (set (replicate 32 0) 31 0x1008) ∷

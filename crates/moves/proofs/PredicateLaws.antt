@@ -8,9 +8,9 @@ use native.Mathlib.Nat.{zero-add, mul-le-mul-right, add-mul, mul-mod-right, div-
 use native.Mathlib.Omega.{arith}
 use lib.ListN.{length, take, drop, length-drop}
 use lib.Seq.{length-take-le, getD-take, getD-drop}
-use Rattle.settings.specs.Settings.{isVectorLength, strideOf}
+use Rattle.settings.specs.Settings.{isVectorLength, validVectors, strideOf}
 use Rattle.settings.specs.declared.Settings.{Settings}
-use Rattle.settings.proofs.SettingsLaws.{stride-fits}
+use Rattle.settings.proofs.SettingsLaws.{vector-valid, stride-fits}
 use Rattle.tiles.specs.Predicate.{active}
 use Rattle.tiles.specs.declared.element.ElementSize.the-variants.{Bits8}
 use Rattle.tiles.specs.declared.span.Span.{Span}
@@ -18,14 +18,17 @@ use Rattle.tiles.proofs.LengthLaws.{whole-elements}
 use Rattle.moves.specs.Paired.{Governed}
 
 -- predicate register pg of P, which has 16, from `start` on
-module _ (s : Settings) (valid : isVectorLength (s .«vector_bytes») ≡ true) (p : List ℕ) (long : length p ≡ 16 * (strideOf s / 8)) (pg : ℕ) (few : pg < 16) (start : ℕ) (starts : start ≡ pg * (strideOf s / 8)) where
+module _ (s : Settings) (laid : validVectors s ≡ true) (p : List ℕ) (long : length p ≡ 16 * (strideOf s / 8)) (pg : ℕ) (few : pg < 16) (start : ℕ) (starts : start ≡ pg * (strideOf s / 8)) where
   abbrev B : ℕ
   B = s .«vector_bytes»
+
+  valid : isVectorLength B ≡ true
+  valid = vector-valid s laid
 
   -- a vector's part of it lies in P
   pub part-within : start + B / 8 ≤ length p
   part-within =
-      let f = stride-fits s valid in
+      let f = stride-fits s laid in
       let above : pg + 1 ≤ 16 = omega arith in
       omega (arith, mul-le-mul-right (strideOf s / 8) above, add-mul pg 1 (strideOf s / 8), f .fit)
 

@@ -9,8 +9,7 @@ use native.Mathlib.Nat.{mod-lt, div-add-mod', div-lt-iff-lt-mul, mul-div-cancel,
 use native.Mathlib.Omega.{arith}
 use lib.Arith.{digits-lt, digits-div, digits-mod}
 use borrow.Author.Tests.{eqb-true}
-use Rattle.settings.specs.Settings.{isVectorLength}
-use Rattle.settings.proofs.SettingsLaws.{five-lengths}
+use Rattle.settings.proofs.SettingsLaws.{vector-length-long}
 use Rattle.tiles.specs.Element.{sizeOf}
 use Rattle.tiles.proofs.LengthLaws.{whole-elements}
 use Rattle.planner.specs.Tile.{tileOf, isSize, shares}
@@ -93,15 +92,11 @@ first-byte S B v x p r w c =
     let e : r * S % S ≡ 0 = mul-mod-left r S in
     at-byte S B v x p (r * S) (record { vector = rw d w; column = rw e (omega arith); tile = ap (λ (k : ℕ). k % x .bytes) d ∙ c })
 
--- no vector length is below 16
-sixteen-within : (B : ℕ) → isVectorLength B ≡ true → 16 ≤ B
-sixteen-within = five-lengths (λ B. 16 ≤ B) (omega arith) (omega arith) (omega arith) (omega arith) (omega arith)
-
 module _ (S B : ℕ) (x y : Tile) (v : Vectors S B) (px : Exists x) (py : Exists y) where
   pub shared-byte : shares x y ≡ true → ByteShared S B x y
   shared-byte e =
       let c = shares-common x y e in
-      let w : c .part < B = omega (arith, c .below, sixteen-within B (v .valid)) in
+      let w : c .part < B = omega (arith, c .below, vector-length-long B (v .valid)) in
       record { at = c .part * S; first = first-byte S B v x px (c .part) w (c .first); second = first-byte S B v y py (c .part) w (c .second) }
 
   pub byte-shared : ByteShared S B x y → shares x y ≡ true

@@ -11,7 +11,7 @@ use lib.ListN.{length}
 use borrow.Author.Tests.{eqb-true, leb-true, eq-eqb, le-leb}
 use Rattle.general.specs.Least.{isSome}
 use Rattle.settings.specs.Answer.{Answer, answerWith, done, stackMisaligned, outsideMemory}
-use Rattle.settings.specs.Settings.{isVectorLength, validSettings, maxLevel, lengthsOf}
+use Rattle.settings.specs.Settings.{validVectors, validSettings, maxLevel, lengthsOf}
 use Rattle.settings.specs.declared.Settings.{Settings}
 use Rattle.encoding.specs.Codec.{decodeOf}
 use Rattle.encoding.specs.declared.operation.SliceAccess.{SliceAccess}
@@ -43,8 +43,8 @@ guard-done false r rest e = absurd (refused-not-done r e)
 
 -- ---- the check of settings and lengths
 
-pub settings-facts : (s : Settings) → validSettings s ≡ true → (isVectorLength (s .«vector_bytes») ≡ true) × (s .level ≤ maxLevel)
-settings-facts s e = let h = and-eq-true-iff (isVectorLength (s .«vector_bytes»)) (leb (s .level) maxLevel) .0 e in (h .0, leb-true _ _ (h .1))
+pub settings-facts : (s : Settings) → validSettings s ≡ true → (validVectors s ≡ true) × (s .level ≤ maxLevel)
+settings-facts s e = let h = and-eq-true-iff (validVectors s) (leb (s .level) maxLevel) .0 e in (h .0, leb-true _ _ (h .1))
 
 module _ (s : Settings) (lx lz lp lza lm : ℕ) where
   pub lengths-facts : validLengths s lx lz lp lza lm ≡ true → (lx ≡ lengthsOf s .x) × (lz ≡ lengthsOf s .z) × (lp ≡ lengthsOf s .p) × (lza ≡ lengthsOf s .za) × (s .«memory_address» + lm ≤ 2 ^ 64)
@@ -63,10 +63,10 @@ module _ (s : Settings) (lx lz lp lza lm : ℕ) where
   valid-sized v e =
       let i = settings-facts s v in
       let h = lengths-facts e in
-      record { vector = i .0; level = i .1; x = h .0; z = h .1; p = h .2; za = h .3; memory = h .4 }
+      record { vectors = i .0; level = i .1; x = h .0; z = h .1; p = h .2; za = h .3; memory = h .4 }
 
   pub sized-settings : Sized s lx lz lp lza lm → validSettings s ≡ true
-  sized-settings h = rw (h .vector) (le-leb _ _ (h .level))
+  sized-settings h = rw (h .vectors) (le-leb _ _ (h .level))
 
   pub sized-lengths : Sized s lx lz lp lza lm → validLengths s lx lz lp lza lm ≡ true
   sized-lengths h = rw (eq-eqb _ _ (h .x), eq-eqb _ _ (h .z), eq-eqb _ _ (h .p), eq-eqb _ _ (h .za)) (le-leb _ _ (h .memory))

@@ -5,7 +5,7 @@ use mathlib.Core.Path.{_≡_, refl, sym, ap, _∙_}
 use mathlib.Core.Bool.{Bool, true, false, cond, _&&_, not, true≢false}
 use mathlib.Core.Option.{Option, none, some}
 use mathlib.Core.List.{List}
-use native.Mathlib.Nat.{le-refl, mod-lt, mul-le-mul-right, suc-mul, div-add-mod', add-mul}
+use native.Mathlib.Nat.{mod-lt, mul-le-mul-right, suc-mul, div-add-mod', add-mul}
 use native.Mathlib.Omega.{arith}
 use lib.Arith.{digits-lt, digits-div, digits-mod}
 use lib.Dec.{leb, ltb}
@@ -17,7 +17,7 @@ use Rattle.general.proofs.LeastLaws.{least-none}
 use Rattle.general.proofs.ScatterLaws.{getD-scatter, getD-scatter-other}
 use Rattle.settings.specs.Settings.{isVectorLength, maxVectorBytes, strideOf}
 use Rattle.settings.specs.declared.Settings.{Settings}
-use Rattle.settings.proofs.SettingsLaws.{five-lengths}
+use Rattle.settings.proofs.SettingsLaws.{five-lengths, vector-length-long, vector-valid, stride-fits}
 use Rattle.tiles.specs.Element.{bytesOf}
 use Rattle.tiles.specs.Predicate.{active}
 use Rattle.tiles.specs.Tile.{byteOf, sliceAt}
@@ -76,8 +76,9 @@ record SliceFits (s : Settings) (t : State) (o : TileSlice) : Type 0 where
 
 slice-fits : (s : Settings) (t : State) (o : TileSlice) → SizedAt s t → SliceInRange o → SliceFits s t o
 slice-fits s t o h r =
-    let w = whole-elements (o .size) (s .«vector_bytes») (h .vector) in
-    record { whole = w .elements; apart = le-refl (s .«vector_bytes»); tile = r .tile; number = mod-lt _ (w .slices); long = omega (arith, h .za) }
+    let w = whole-elements (o .size) (s .«vector_bytes») (vector-valid s (h .vectors)) in
+    let fit = stride-fits s (h .vectors) .fit in
+    record { whole = w .elements; apart = fit; tile = r .tile; number = mod-lt _ (w .slices); long = omega (arith, h .za, mul-le-mul-right (strideOf s) fit) }
 
 module _ (s : Settings) (t : State) (o : TileSlice) where
   -- ---- active elements
@@ -136,20 +137,27 @@ record GroupFits (s : Settings) (t : State) (o : ArrayToVectors) : Type 0 where
   long : s .«vector_bytes» * strideOf s ≤ length (t .za)
   room : (o .zd + registersOf (o .registers)) * strideOf s ≤ length (t .z)
 
-few-registers : (r : RegisterCount) → (registersOf r ≤ 4) × (0 < registersOf r)
+pub few-registers : (r : RegisterCount) → (registersOf r ≤ 4) × (0 < registersOf r)
 few-registers Two = (omega arith, omega arith)
 few-registers Four = (omega arith, omega arith)
 
-whole-groups : (r : RegisterCount) (B : ℕ) → isVectorLength B ≡ true → (registersOf r * (B / registersOf r) ≡ B) × (0 < B / registersOf r)
+pub whole-groups : (r : RegisterCount) (B : ℕ) → isVectorLength B ≡ true → (registersOf r * (B / registersOf r) ≡ B) × (0 < B / registersOf r)
 whole-groups Two = five-lengths (λ B. (2 * (B / 2) ≡ B) × (0 < B / 2)) (omega arith, omega arith) (omega arith, omega arith) (omega arith, omega arith) (omega arith, omega arith) (omega arith, omega arith)
 whole-groups Four = five-lengths (λ B. (4 * (B / 4) ≡ B) × (0 < B / 4)) (omega arith, omega arith) (omega arith, omega arith) (omega arith, omega arith) (omega arith, omega arith) (omega arith, omega arith)
 
 group-fits : (s : Settings) (t : State) (o : ArrayToVectors) → SizedAt s t → ArrayInRange o → GroupFits s t o
 group-fits s t o h r =
-    let B = s .«vector_bytes» in
-    let w = whole-groups (o .registers) B (h .vector) in
-    let fewer : (o .zd + registersOf (o .registers)) * B ≤ 32 * B = mul-le-mul-right B (r .vectors) in
-    record { some = five-lengths (λ B. 0 < B) (omega arith) (omega arith) (omega arith) (omega arith) (omega arith) B (h .vector); apart = le-refl B; whole = w .0; first = mod-lt _ (w .1); long = omega (arith, h .za); room = omega (arith, h .z) }
+    let v = vector-valid s (h .vectors) in
+    let fit = stride-fits s (h .vectors) .fit in
+    let w = whole-groups (o .registers) (s .«vector_bytes») v in
+    record {
+      some = omega (arith, vector-length-long _ v);
+      apart = fit;
+      whole = w .0;
+      first = mod-lt _ (w .1);
+      long = omega (arith, h .za, mul-le-mul-right (strideOf s) fit);
+      room = omega (arith, h .z, mul-le-mul-right (strideOf s) (r .vectors));
+    }
 
 module _ (s : Settings) (t : State) (o : ArrayToVectors) (fits : GroupFits s t o) (val : ℕ → ℕ) where
   -- vector j of the group, and that they differ
@@ -210,7 +218,7 @@ access-fits : (s : Settings) (t : State) (o : SliceAccess) → SizedAt s t → A
 access-fits s t o h r e =
     record {
       slice = slice-fits s t (o .slice) h (r .slice);
-      few = whole-elements (o .slice .size) (s .«vector_bytes») (h .vector) .longest;
+      few = whole-elements (o .slice .size) (s .«vector_bytes») (vector-valid s (h .vectors)) .longest;
       inside = λ k w y. and-not _ _ (least-none (faulting s (t .x) (t .p) (length (t .memory)) o) (s .«vector_bytes») (fault-none s (t .x) (t .p) (length (t .memory)) o e) k w) y;
     }
 
@@ -267,9 +275,8 @@ module _ (s : Settings) (t : State) (o : SliceAccess) (fits : AccessFits s t o) 
 -- a register of a state of the right lengths
 register-room : (s : Settings) (t : State) (v : ℕ) → SizedAt s t → v < 32 → v * strideOf s + s .«vector_bytes» ≤ length (t .z)
 register-room s t v h w =
-    let B = s .«vector_bytes» in
-    let r : suc v * B ≤ 32 * B = mul-le-mul-right B w in
-    omega (arith, suc-mul v B, h .z)
+    let r : suc v * strideOf s ≤ 32 * strideOf s = mul-le-mul-right (strideOf s) w in
+    omega (arith, suc-mul v (strideOf s), h .z, stride-fits s (h .vectors) .fit)
 
 module _ (s : Settings) (t : State) (h : SizedAt s t) where
   to-tile : (o : VectorToTile) → ToTileInRange o → ToTile s t (effectOf s (MovaToTile o) t) o

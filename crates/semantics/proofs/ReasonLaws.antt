@@ -15,9 +15,10 @@ use Rattle.general.specs.Least.{least, isSome}
 use Rattle.general.proofs.LeastLaws.{none-some, is-some, least-some, some-least}
 use Rattle.general.proofs.BoolLaws.{and-parts, and-both, by-test, refute, clash}
 use Rattle.settings.specs.Answer.{Answer, answerWith, firstValue, badSettings, badLengths, undecodable, streamingOff, zaOff, stackMisaligned, outsideMemory}
-use Rattle.settings.specs.Settings.{isVectorLength, validSettings, maxLevel, strideOf}
+use Rattle.settings.specs.Settings.{isVectorLength, validVectors, validSettings, maxLevel, strideOf}
 use Rattle.settings.specs.declared.Settings.{Settings}
-use Rattle.settings.proofs.Claims.{is-five-lengths}
+use Rattle.settings.proofs.SettingsLaws.{vector-valid}
+use Rattle.settings.proofs.Claims.{is-five-lengths, vectors-fit}
 use borrow.Author.Tests.{not-true, eqb-true, eqb-false, leb-true, leb-false, ltb-true, ltb-false, eq-eqb}
 use Rattle.semantics.specs.Answer.{executedNumber, executedAddress, executedAnswer}
 use Rattle.semantics.specs.State.{State, publicOf}
@@ -158,18 +159,23 @@ false-not false e = refl
 -- 1
 module _ (s : Settings) (w : ℕ) (t : State) where
   settings-bad : not (validSettings s) ≡ true → SettingsBad s w t
-  settings-bad e = go (by-test (isVectorLength (s .«vector_bytes»)))
+  settings-bad e = go _ _ _ _ refl refl refl refl (not-true _ e)
     where
-      go : (isVectorLength (s .«vector_bytes») ≡ true) ⊎ (isVectorLength (s .«vector_bytes») ≡ false) → SettingsBad s w t
-      go (inl y) = inr (leb-false (s .level) maxLevel (refute _ (λ v. clash _ (and-both _ _ y v) (not-true _ e))))
-      go (inr n) = inl (λ five. clash _ (is-five-lengths (s .«vector_bytes») .1 five) n)
+      go : (a b c d : Bool) → isVectorLength (s .«vector_bytes») ≡ a → isVectorLength (strideOf s) ≡ b → leb (s .«vector_bytes») (strideOf s) ≡ c → leb (s .level) maxLevel ≡ d → a && b && c && d ≡ false → SettingsBad s w t
+      go false b c d x y f l e = inl (λ five. clash _ (is-five-lengths (s .«vector_bytes») .1 five) x)
+      go true false c d x y f l e = inr (inl (λ five. clash _ (is-five-lengths (strideOf s) .1 five) y))
+      go true true false d x y f l e = inr (inr (inl (leb-false _ _ f)))
+      go true true true false x y f l e = inr (inr (inr (leb-false _ _ l)))
+      go true true true true x y f l e = absurd (true≢false e)
 
   bad-settings : SettingsBad s w t → not (validSettings s) ≡ true
   bad-settings h = false-not _ (refute _ (λ v. go h (settings-facts s v)))
     where
-      go : SettingsBad s w t → (isVectorLength (s .«vector_bytes») ≡ true) × (s .level ≤ maxLevel) → ⊥
-      go (inl n) f = n (is-five-lengths (s .«vector_bytes») .0 (f .0))
-      go (inr l) f = omega (arith, f .1)
+      go : SettingsBad s w t → (validVectors s ≡ true) × (s .level ≤ maxLevel) → ⊥
+      go (inl n) f = n (vectors-fit s .0 (f .0) .vector)
+      go (inr (inl n)) f = n (vectors-fit s .0 (f .0) .largest)
+      go (inr (inr (inl l))) f = omega (arith, vectors-fit s .0 (f .0) .fit)
+      go (inr (inr (inr l))) f = omega (arith, f .1)
 
   -- 2
   lengths-bad : not (validLengths s (length (t .x)) (length (t .z)) (length (t .p)) (length (t .za)) (length (t .memory))) ≡ true → LengthsBad s w t
@@ -359,11 +365,11 @@ module _ (s : Settings) (w : ℕ) (t : State) (valid : isVectorLength (s .«vect
 
 module _ (s : Settings) (w : ℕ) (t : State) where
   -- an execution that is not refused for its settings has a vector length
-  vector-valid : (SettingsBad s w t → ⊥) → isVectorLength (s .«vector_bytes») ≡ true
-  vector-valid h = go (by-test (validSettings s))
+  vector-good : (SettingsBad s w t → ⊥) → isVectorLength (s .«vector_bytes») ≡ true
+  vector-good h = go (by-test (validSettings s))
     where
       go : (validSettings s ≡ true) ⊎ (validSettings s ≡ false) → isVectorLength (s .«vector_bytes») ≡ true
-      go (inl y) = settings-facts s y .0
+      go (inl y) = vector-valid s (settings-facts s y .0)
       go (inr n) = absurd (h (settings-bad s w t (false-not _ n)))
 
   abbrev lengthTest : Bool
@@ -398,8 +404,8 @@ module _ (s : Settings) (w : ℕ) (t : State) where
           (
             (λ h. (not-true (s .za), false-not (s .za))),
             (
-              (λ h. let v = vector-valid (h .0 .0 .0 .0 .1) in (stack-bad s w t v, bad-stack s w t v)),
-              ((λ h. let v = vector-valid (h .0 .0 .0 .0 .0 .1) in (outside-bad s w t v, bad-outside s w t v)), tt {0}),
+              (λ h. let v = vector-good (h .0 .0 .0 .0 .1) in (stack-bad s w t v, bad-stack s w t v)),
+              ((λ h. let v = vector-good (h .0 .0 .0 .0 .0 .1) in (outside-bad s w t v, bad-outside s w t v)), tt {0}),
             ),
           ),
         ),
@@ -431,7 +437,7 @@ module _ (s : Settings) (w : ℕ) (t : State) where
   seventh e l y = go (accessOfWord) refl y (ap firstValue (answer-first ∙ l))
     where
       valid : isVectorLength (s .«vector_bytes») ≡ true
-      valid = vector-valid (given-exactly .reason 6 (omega arith) e .1 0 (omega arith))
+      valid = vector-good (given-exactly .reason 6 (omega arith) e .1 0 (omega arith))
 
       go : (a : Option SliceAccess) → accessOfWord ≡ a → isSome (faultIn s (publicOf t) a) ≡ true → executedAddress (executeOf s w t .answer) ≡ getD (addressAmong s (publicOf t) a (faultIn s (publicOf t) a)) 0 0 → FirstOutside s w t
       go none q y r = absurd (true≢false (sym y))

@@ -29,8 +29,12 @@ vectorIn l B v = take B (drop (v * B) l)
 abbrev pub switched : Settings → Bool → Bool → Settings
 switched s streaming za = withZa (withStreaming s streaming) za
 
+-- with vectors of B bytes in buffers for S, or for B
+abbrev pub settingsWithin : ℕ → ℕ → ℕ → Settings
+settingsWithin B S address = withMemoryAddress (switched (settingsOf B S 3) true true) address
+
 abbrev pub settingsAt : ℕ → ℕ → Settings
-settingsAt B address = withMemoryAddress (switched (settingsOf B 3) true true) address
+settingsAt B address = settingsWithin B B address
 
 abbrev pub zAt : ℕ → List ℕ
 zAt B = bytesFrom 11 (32 * B)
@@ -79,7 +83,7 @@ executed B w n x p = executedIn B 0 n w x p
 -- at 16 bytes under a level, with streaming and ZA so, and with both on
 abbrev pub executedUnder : ℕ → Bool → Bool → ℕ → Seen
 executedUnder level streaming za w =
-    seen (executeOf (switched (settingsOf 16 level) streaming za) w (stateAt 16 8 (bytesFrom 50 32) (ones 16)))
+    seen (executeOf (switched (settingsOf 16 16 level) streaming za) w (stateAt 16 8 (bytesFrom 50 32) (ones 16)))
 
 abbrev pub executedAt : ℕ → ℕ → Seen
 executedAt level w = executedUnder level true true w

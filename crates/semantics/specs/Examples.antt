@@ -126,7 +126,7 @@ pub record ExampleSlices : Type 0 where
 
 -- a word that is no instruction, with streaming and ZA off and P one byte too short, at a level
 abbrev unsettled : ℕ → ℕ
-unsettled level = seen (executeOf (switched (settingsOf 16 level) false false) 0xC0000010 (stateOf (bytesFrom 50 32) (zAt 16) (drop 1 (ones 16)) (zaAt 16) (memoryOf 8))) .number
+unsettled level = seen (executeOf (switched (settingsOf 16 16 level) false false) 0xC0000010 (stateOf (bytesFrom 50 32) (zAt 16) (drop 1 (ones 16)) (zaAt 16) (memoryOf 8))) .number
 
 -- 12, and the other checks of settings: C0000000 at level 1 with streaming and ZA off gives 4, with ZA off 5; level 4 gives 1
 pub record Example12 : Type 0 where

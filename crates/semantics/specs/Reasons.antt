@@ -28,6 +28,10 @@ ReasonAt [] n = ⊥
 ReasonAt (P ∷ Ps) zero = P
 ReasonAt (P ∷ Ps) (suc n) = ReasonAt Ps n
 
+-- a number is none of the five lengths
+abbrev pub NotLength : ℕ → Type 0
+NotLength n = IsOneOf (16 ∷ 32 ∷ 64 ∷ 128 ∷ 256 ∷ []) n → ⊥
+
 module _ (s : Settings) (w : ℕ) (t : State) where
   -- the word is a load or store
   abbrev pub IsAccess : SliceAccess → Type 0
@@ -37,15 +41,15 @@ module _ (s : Settings) (w : ℕ) (t : State) where
   abbrev pub NotInMemory : ℕ → Type 0
   NotInMemory a = (a < s .«memory_address») ⊎ (s .«memory_address» + length (t .memory) ≤ a)
 
-  -- 1: B not one of the five, or level above 3
+  -- 1: B not one of the five; the largest length not one of the five, or below B (request 12); or level above 3
   abbrev pub SettingsBad : Type 0
-  SettingsBad = (IsOneOf (16 ∷ 32 ∷ 64 ∷ 128 ∷ 256 ∷ []) (s .«vector_bytes») → ⊥) ⊎ (3 < s .level)
+  SettingsBad = NotLength (s .«vector_bytes») ⊎ (NotLength (s .«largest_vector_bytes») ⊎ ((s .«largest_vector_bytes» < s .«vector_bytes») ⊎ (3 < s .level)))
 
-  -- 2: X, Z, P or ZA not of the length that B fixes, or memory address + memory length above 2^64
+  -- 2: X, Z, P or ZA not of the length that the largest vector length fixes (request 12), or memory address + memory length above 2^64
   abbrev pub LengthsBad : Type 0
   LengthsBad =
-      (length (t .x) ≡ 32 → ⊥) ⊎ ((length (t .z) ≡ 32 * s .«vector_bytes» → ⊥) ⊎ ((length (t .p) ≡ 16 * (s .«vector_bytes» / 8) → ⊥) ⊎
-      ((length (t .za) ≡ s .«vector_bytes» * s .«vector_bytes» → ⊥) ⊎ (2 ^ 64 < s .«memory_address» + length (t .memory)))))
+      (length (t .x) ≡ 32 → ⊥) ⊎ ((length (t .z) ≡ 32 * s .«largest_vector_bytes» → ⊥) ⊎ ((length (t .p) ≡ 16 * (s .«largest_vector_bytes» / 8) → ⊥) ⊎
+      ((length (t .za) ≡ s .«largest_vector_bytes» * s .«largest_vector_bytes» → ⊥) ⊎ (2 ^ 64 < s .«memory_address» + length (t .memory)))))
 
   -- 3: the word does not decode at this level
   abbrev pub DoesNotDecode : Type 0

@@ -5,7 +5,7 @@ use mathlib.Core.Path.{_≡_}
 use mathlib.Core.Bool.{true}
 use mathlib.Core.List.{List}
 use lib.ListN.{length}
-use Rattle.settings.specs.Settings.{isVectorLength, maxLevel, lengthsOf}
+use Rattle.settings.specs.Settings.{validVectors, maxLevel, lengthsOf}
 use Rattle.settings.specs.declared.Settings.{Settings}
 use Rattle.encoding.specs.declared.operation.Operation.{Operation}
 use Rattle.semantics.specs.declared.answer.Executed.{Executed}
@@ -15,7 +15,7 @@ use Rattle.semantics.specs.Execute.{operationAnswer, ifDone}
 
 -- what a check of settings and lengths that finds nothing says; a function that is not lent a buffer takes it as of the right length
 pub record Sized (s : Settings) (lx lz lp lza lm : ℕ) : Type 0 where
-  pub vector : isVectorLength (s .«vector_bytes») ≡ true
+  pub vectors : validVectors s ≡ true
   pub level : s .level ≤ maxLevel
   pub x : lx ≡ lengthsOf s .x
   pub z : lz ≡ lengthsOf s .z

@@ -12,10 +12,10 @@ use borrow.Author.Tests.{eq-eqb, ne-eqb}
 use Rattle.general.specs.Determined.{IsOneOf}
 use Rattle.general.proofs.DeterminedLaws.{equal-determines, one-of-test, other-number}
 use Rattle.settings.specs.Answer.{Answer, answerWith, firstValue, done, badSettings}
-use Rattle.settings.specs.Settings.{isVectorLength, validSettings, lengthsOf, lengthNumbers}
+use Rattle.settings.specs.Settings.{validVectors, validSettings, lengthsOf, lengthNumbers}
 use Rattle.settings.specs.Lent.{settingsIn}
 use Rattle.settings.specs.declared.Settings.{Settings}
-use Rattle.settings.proofs.Claims.{passed, lent-settings}
+use Rattle.settings.proofs.Claims.{vectors-fit, passed, lent-settings}
 use Rattle.encoding.specs.Codec.{decodeAnswer, encodeAnswer}
 use Rattle.encoding.proofs.AnswerLaws.{decode-answered, encode-answered}
 use Rattle.semantics.specs.Answer.{executedNumber, executedAddress}
@@ -121,12 +121,14 @@ length-exports-determine : (s : Settings) (l : List ℕ) → LengthExportsDeterm
 length-exports-determine s l = record {
   determined = equal-determines (λ (o : ℕ × List ℕ). LengthExports s l (o .0) (o .1)) _ (λ o p i. (p .number i, p .lengths i));
   numbers = λ r l′ p. one-of-test allowed (0 ∷ 1 ∷ []) _ _ _ (inl refl) (inr (inl refl)) (p .number);
+  fitting = λ r l′ p e. vectors-fit s .0 (passed allowed (sym (p .number) ∙ e));
+  valid = λ r l′ p f. p .number ∙ rw (vectors-fit s .1 f);
   done = λ r l′ p e. p .lengths ∙ ap (λ (b : Bool). cond b (lengthNumbers (lengthsOf s)) l) (passed allowed (sym (p .number) ∙ e));
   refused = λ r l′ p. other-number allowed _ _ _ _ _ _ (p .number) (p .lengths);
 }
   where
     allowed : Bool
-    allowed = isVectorLength (s .«vector_bytes»)
+    allowed = validVectors s
 
 -- ---- too few or too many settings
 
@@ -135,7 +137,7 @@ invalid : (b : Bool) → cond b done badSettings ≡ 1 → b ≡ false
 invalid true e = absurd (omega arith)
 invalid false e = refl
 
-no-machine : (s : Settings) → validSettings s ≡ false → isVectorLength (s .«vector_bytes») ≡ false → AnswersNoMachine s
+no-machine : (s : Settings) → validSettings s ≡ false → validVectors s ≡ false → AnswersNoMachine s
 unfolding answerInNumbers
 no-machine s e f = record {
   executes = λ w t rs r rs′ t′ p.
@@ -156,6 +158,7 @@ exports-all-determine = record {
   decodes = decode-exports-determine;
   encodes = encode-exports-determine;
   lengths = length-exports-determine;
-  few = λ given h. let q = lent-settings .few given h in no-machine (settingsIn given) (invalid _ (q .check)) (q .length);
-  many = λ given h. let q = lent-settings .many given h in no-machine (settingsIn given) (invalid _ (q .check)) (q .length);
+  zero = λ B l a b c d. let q = lent-settings .zero B l a b c d in no-machine (settingsIn (B ∷ l ∷ a ∷ b ∷ c ∷ d ∷ 0 ∷ [])) (invalid _ (q .check)) (q .vectors);
+  few = λ given h. let q = lent-settings .few given h in no-machine (settingsIn given) (invalid _ (q .check)) (q .vectors);
+  many = λ given h. let q = lent-settings .many given h in no-machine (settingsIn given) (invalid _ (q .check)) (q .vectors);
 }

@@ -19,6 +19,8 @@ export-examples-hold = record {
   encodes = λ r w p i. p .number i ∷ p .word i ∷ [];
   outOfRange = λ r w p i. p .number i ∷ p .word i ∷ [];
   lengths = λ r ls′ p i. p .number i ∷ p .lengths i;
+  largest = λ r ls′ p i. p .number i ∷ p .lengths i;
+  below = λ r ls′ p i. p .number i ∷ p .lengths i;
   noLengths = λ r ls′ p i. p .number i ∷ p .lengths i;
   noLevel = λ r ls′ p i. p .number i ∷ p .lengths i;
 }

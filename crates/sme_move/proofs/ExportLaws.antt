@@ -11,7 +11,7 @@ use lib.ListN.{length, set}
 use types.Run.{OneOf}
 use denote.Enum.Declared.{tagOf}
 use Rattle.settings.specs.Answer.{done, badSettings, checkedNumber, Answer}
-use Rattle.settings.specs.Settings.{isVectorLength, Measures}
+use Rattle.settings.specs.Settings.{validVectors, Measures}
 use Rattle.settings.specs.declared.Settings.{Settings}
 use Rattle.settings.specs.declared.Checked.{Checked}
 use Rattle.settings.specs.declared.Checked.the-variants.{Valid, BadSettings}
@@ -74,7 +74,7 @@ number-of : (b : Bool) → checkedNumber (cond b Valid BadSettings) ≡ cond b d
 number-of true = refl
 number-of false = refl
 
-pub lengths-export : {s s′ : Settings} {l l′ : List ℕ} {c : Checked} {r : ℕ} → s ≡ s′ → Measures (s .«vector_bytes») l c l′ → r ≡ checkedNumber c → LengthExports s′ l r l′
+pub lengths-export : {s s′ : Settings} {l l′ : List ℕ} {c : Checked} {r : ℕ} → s ≡ s′ → Measures s l c l′ → r ≡ checkedNumber c → LengthExports s′ l r l′
 lengths-export {s} {l} {l′} {r} q h n =
     subst (λ (s : Settings). LengthExports s l r l′) q
-    (record { number = n ∙ ap checkedNumber (h .answer) ∙ number-of (isVectorLength (s .«vector_bytes»)); lengths = h .lengths })
+    (record { number = n ∙ ap checkedNumber (h .answer) ∙ number-of (validVectors s); lengths = h .lengths })

@@ -9,6 +9,7 @@ use Rattle.general.specs.Determined.{Determined, Met, IsOneOf}
 use Rattle.settings.specs.Answer.{firstValue}
 use Rattle.settings.specs.Settings.{checkNumber}
 use Rattle.settings.specs.Lent.{settingsIn}
+use Rattle.settings.specs.Claims.{Fitting}
 use Rattle.settings.specs.declared.Settings.{Settings}
 use Rattle.encoding.specs.Codec.{decodeAnswer, encodeAnswer}
 use Rattle.semantics.specs.State.{State, publicOf}
@@ -46,11 +47,14 @@ pub record EncodeExportsDetermine (f : List ℕ) : Type 0 where
   pub table : (r w : ℕ) → EncodeExports f r w → (r ≡ encodeAnswer f .number) × (w ≡ firstValue (encodeAnswer f))
   pub refused : (r w : ℕ) → EncodeExports f r w → (r ≡ 0 → ⊥) → w ≡ 0
 
--- lengths: with 0 what the vector length fixes, and another number leaves them as they were
+-- lengths: with 0, which is given exactly if the two vector lengths fit, what the largest fixes, and another number leaves them as they were
 pub record LengthExportsDetermine (s : Settings) (l : List ℕ) : Type 0 where
   pub determined : Determined (λ (o : ℕ × List ℕ). LengthExports s l (o .0) (o .1))
   pub numbers : (r : ℕ) (l′ : List ℕ) → LengthExports s l r l′ → IsOneOf (0 ∷ 1 ∷ []) r
-  pub done : (r : ℕ) (l′ : List ℕ) → LengthExports s l r l′ → r ≡ 0 → l′ ≡ 32 ∷ (32 * s .«vector_bytes») ∷ (16 * (s .«vector_bytes» / 8)) ∷ (s .«vector_bytes» * s .«vector_bytes») ∷ []
+  pub fitting : (r : ℕ) (l′ : List ℕ) → LengthExports s l r l′ → r ≡ 0 → Fitting (s .«vector_bytes») (s .«largest_vector_bytes»)
+  pub valid : (r : ℕ) (l′ : List ℕ) → LengthExports s l r l′ → Fitting (s .«vector_bytes») (s .«largest_vector_bytes») → r ≡ 0
+  pub done : (r : ℕ) (l′ : List ℕ) → LengthExports s l r l′ → r ≡ 0 →
+      l′ ≡ 32 ∷ (32 * s .«largest_vector_bytes») ∷ (16 * (s .«largest_vector_bytes» / 8)) ∷ (s .«largest_vector_bytes» * s .«largest_vector_bytes») ∷ []
   pub refused : (r : ℕ) (l′ : List ℕ) → LengthExports s l r l′ → (r ≡ 0 → ⊥) → l′ ≡ l
 
 -- settings that no machine has: every question is answered 1, with address 0, and every buffer stays
@@ -65,6 +69,7 @@ pub record ExportsAllDetermine : Type 0 where
   pub decodes : (w level : ℕ) (f : List ℕ) → DecodeExportsDetermine w level f
   pub encodes : (f : List ℕ) → EncodeExportsDetermine f
   pub lengths : (s : Settings) (l : List ℕ) → LengthExportsDetermine s l
-  -- by their count alone
+  -- by a 0 that is given for the largest vector length (request 12), and by their count alone
+  pub zero : (B l a b c d : ℕ) → AnswersNoMachine (settingsIn (B ∷ l ∷ a ∷ b ∷ c ∷ d ∷ 0 ∷ []))
   pub few : (given : List ℕ) → length given < 2 → AnswersNoMachine (settingsIn given)
-  pub many : (given : List ℕ) → 6 < length given → AnswersNoMachine (settingsIn given)
+  pub many : (given : List ℕ) → 7 < length given → AnswersNoMachine (settingsIn given)

@@ -20,7 +20,7 @@ abbrev pub GivesLengths : List ℕ → List ℕ → List ℕ → Type 0
 GivesLengths given ls l = (r : ℕ) (ls′ : List ℕ) → LengthExports (settingsIn given) ls r ls′ → r ∷ ls′ ≡ l
 
 pub record ExportExamplesHold : Type 0 where
-  pub versionIs : version ≡ 6
+  pub versionIs : version ≡ 7
   -- results in an array without a place, with one, with more; of two results the first where there is one place
   pub results : map (filled (7 ∷ [])) ([] ∷ (9 ∷ []) ∷ (9 ∷ 8 ∷ 6 ∷ []) ∷ []) ≡ [] ∷ (7 ∷ []) ∷ (7 ∷ 8 ∷ 6 ∷ []) ∷ []
   pub cut : filled (7 ∷ 5 ∷ []) (9 ∷ []) ≡ 7 ∷ []
@@ -31,7 +31,9 @@ pub record ExportExamplesHold : Type 0 where
   -- and back; with predicate 8
   pub encodes : GivesWord (1 ∷ 4 ∷ 1 ∷ 2 ∷ 1 ∷ 13 ∷ 3 ∷ 5 ∷ 0 ∷ 0 ∷ 1 ∷ []) (0 ∷ 0xC080ACA9 ∷ [])
   pub outOfRange : GivesWord (1 ∷ 4 ∷ 1 ∷ 2 ∷ 1 ∷ 13 ∷ 8 ∷ 5 ∷ 0 ∷ 0 ∷ 1 ∷ []) (8 ∷ 0 ∷ [])
-  -- whatever the level; of a vector length that is not allowed; where the level is missing
+  -- whatever the level; by the largest vector length where it is given; of vector lengths that are not allowed; where the level is missing
   pub lengths : GivesLengths (128 ∷ 4 ∷ []) (9 ∷ 8 ∷ 7 ∷ 6 ∷ []) (0 ∷ 32 ∷ 4096 ∷ 256 ∷ 16384 ∷ [])
+  pub largest : GivesLengths (16 ∷ 4 ∷ 0 ∷ 0 ∷ 0 ∷ 0 ∷ 64 ∷ []) (9 ∷ 8 ∷ 7 ∷ 6 ∷ []) (0 ∷ 32 ∷ 2048 ∷ 128 ∷ 4096 ∷ [])
+  pub below : GivesLengths (64 ∷ 3 ∷ 0 ∷ 0 ∷ 0 ∷ 0 ∷ 16 ∷ []) (9 ∷ 8 ∷ 7 ∷ 6 ∷ []) (1 ∷ 9 ∷ 8 ∷ 7 ∷ 6 ∷ [])
   pub noLengths : GivesLengths (512 ∷ 3 ∷ []) (9 ∷ 8 ∷ 7 ∷ 6 ∷ []) (1 ∷ 9 ∷ 8 ∷ 7 ∷ 6 ∷ [])
   pub noLevel : GivesLengths (128 ∷ []) (9 ∷ 8 ∷ 7 ∷ 6 ∷ []) (1 ∷ 9 ∷ 8 ∷ 7 ∷ 6 ∷ [])

@@ -8,7 +8,7 @@ use mathlib.Core.Bool.{cond}
 use mathlib.Core.List.{List, [], _∷_}
 use lib.Dec.{eqb}
 use Rattle.settings.specs.Answer.{Answer, firstValue, done, badSettings}
-use Rattle.settings.specs.Settings.{isVectorLength, lengthsOf, lengthNumbers}
+use Rattle.settings.specs.Settings.{validVectors, lengthsOf, lengthNumbers}
 use Rattle.settings.specs.declared.Settings.{Settings}
 use Rattle.encoding.specs.Codec.{decodeAnswer, encodeAnswer}
 use Rattle.semantics.specs.Answer.{executedNumber, executedAddress}
@@ -18,7 +18,7 @@ use Rattle.semantics.specs.declared.answer.Executed.{Executed}
 
 -- the version of what is exported: major and minor number
 abbrev pub version : ℕ
-version = 65536 * 0 + 6
+version = 65536 * 0 + 7
 
 -- numbers at the beginning of a host's array, as far as it has places for them; what is behind them stays
 abbrev pub filled : List ℕ → List ℕ → List ℕ
@@ -51,5 +51,5 @@ pub record EncodeExports (f : List ℕ) (r w : ℕ) : Type 0 where
   pub word : w ≡ firstValue (encodeAnswer f)
 
 pub record LengthExports (s : Settings) (l : List ℕ) (r : ℕ) (l′ : List ℕ) : Type 0 where
-  pub number : r ≡ cond (isVectorLength (s .«vector_bytes»)) done badSettings
-  pub lengths : l′ ≡ cond (isVectorLength (s .«vector_bytes»)) (lengthNumbers (lengthsOf s)) l
+  pub number : r ≡ cond (validVectors s) done badSettings
+  pub lengths : l′ ≡ cond (validVectors s) (lengthNumbers (lengthsOf s)) l

@@ -15,14 +15,21 @@ use encoding::Decoded;
 pub extern "C" fn sme_version_0_5() -> u32
     ensures { λ r. ⌜ r ≡ version ⌝ }
 {
-    6
+    7
 }
 
 #[no_mangle]
 pub extern "C" fn sme_version_0_6() -> u32
     ensures { λ r. ⌜ r ≡ version ⌝ }
 {
-    6
+    7
+}
+
+#[no_mangle]
+pub extern "C" fn sme_version_0_7() -> u32
+    ensures { λ r. ⌜ r ≡ version ⌝ }
+{
+    7
 }
 
 // Executes one instruction word on the buffers that are lent, and returns the answer's number
@@ -87,14 +94,14 @@ pub extern "C" fn sme_check(given: &[u64]) -> u32
     settings.check().number()
 }
 
-// The lengths that the vector length of these settings fixes, in the order X (in numbers), Z, P, ZA (in bytes), and 0; or 1 for a
-// vector length that is not allowed, with `lengths` as it was.
+// The lengths that these settings fix, in the order X (in numbers), Z, P, ZA (in bytes), and 0; or 1 where a vector length is none,
+// or the largest is below the other, with `lengths` as it was.
 #[no_mangle]
 pub extern "C" fn sme_measure(given: &[u64], lengths: &mut [u64; 4]) -> u32
     ensures { λ r. ⌜ LengthExports (settingsIn (now (given .entry))) (now (lengths .entry)) r (now (lengths .exit)) ⌝ }
 {
     let settings = settings::settings_in(given);
-    settings::measure(settings.vector_bytes, lengths).number()
+    settings::measure(settings, lengths).number()
 }
 
 // Takes the lowest-numbered free tile with elements of so many bytes, and returns the answer's number: 0, with the

@@ -8,9 +8,9 @@ use native.Mathlib.Nat.{add-mul, mul-assoc, mul-le-mul, mul-le-mul-left, mul-le-
 use native.Mathlib.Omega.{arith}
 use lib.Arith.{digits-div, digits-mod}
 use Rattle.general.specs.Scatter.{onwards}
-use Rattle.settings.specs.Settings.{isVectorLength, maxVectorBytes, strideOf}
+use Rattle.settings.specs.Settings.{isVectorLength, validVectors, maxVectorBytes, strideOf}
 use Rattle.settings.specs.declared.Settings.{Settings}
-use Rattle.settings.proofs.SettingsLaws.{stride-fits}
+use Rattle.settings.proofs.SettingsLaws.{vector-valid, stride-fits}
 use Rattle.tiles.specs.declared.direction.Direction.{Direction}
 use Rattle.tiles.specs.declared.direction.Direction.the-variants.{Horizontal, Vertical}
 use Rattle.tiles.specs.declared.element.ElementSize.{ElementSize}
@@ -48,12 +48,15 @@ pub record Spanned (v : Span) (m B long : ℕ) (at : ℕ → ℕ) : Type 0 where
   pub within : Within v m long
   pub apart : m ≤ v .step
 
-module _ (s : Settings) (valid : isVectorLength (s .«vector_bytes») ≡ true) where
+module _ (s : Settings) (laid : validVectors s ≡ true) where
   abbrev B : ℕ
   B = s .«vector_bytes»
 
   abbrev S : ℕ
   S = strideOf s
+
+  valid : isVectorLength B ≡ true
+  valid = vector-valid s laid
 
   pub run-spanned : (size : ElementSize) (start long : ℕ) → start + B ≤ long → Spanned (runFrom s size start) (bytesOf size) B long (onwards start)
   run-spanned size start long room =
@@ -64,7 +67,7 @@ module _ (s : Settings) (valid : isVectorLength (s .«vector_bytes») ≡ true) 
   -- vector `number` of a buffer of n vectors
   pub vector-spanned : (size : ElementSize) (number n long : ℕ) → number < n → n * S ≤ long → Spanned (runFrom s size (number * S)) (bytesOf size) B long (onwards (number * S))
   vector-spanned size number n long below room =
-      run-spanned size (number * S) long (omega (arith, block-within number S n below, stride-fits s valid .fit))
+      run-spanned size (number * S) long (omega (arith, block-within number S n below, stride-fits s laid .fit))
 
   module _ (x : List ℕ) (o : TileSlice) (tile : o .tile < bytesOf (o .size)) where
     abbrev m : ℕ
@@ -88,7 +91,7 @@ module _ (s : Settings) (valid : isVectorLength (s .«vector_bytes») ≡ true) 
     step-apart : (d : Direction) → m ≤ sliceStep S m d
     step-apart Horizontal = omega arith
     step-apart Vertical =
-        let f = stride-fits s valid in
+        let f = stride-fits s laid in
         let some : 1 ≤ S = omega (arith, vector-below) in
         omega (arith, mul-le-mul-left m some)
 
@@ -96,7 +99,7 @@ module _ (s : Settings) (valid : isVectorLength (s .«vector_bytes») ≡ true) 
     unfolding strided sliceAt
     slice-spanned long room =
         let w = whole-elements (o .size) B valid in
-        let f = stride-fits s valid in
+        let f = stride-fits s laid in
         let square : B * S ≤ S * S = mul-le-mul-right S (f .fit) in
         let slice-ends : (e : ℕ) → e < B / m → sliceStart S m (o .tile) (o .direction) n + e * sliceStep S m (o .direction) + m ≤ long = λ e h. omega (arith, start-byte (o .direction) e (m - 1), byteOf-within S B m (B / m) (w .elements) (f .fit) (o .tile) tile (o .direction) n e (m - 1) number-below h (omega arith)) in
         record {
@@ -111,7 +114,7 @@ module _ (s : Settings) (valid : isVectorLength (s .«vector_bytes») ≡ true) 
     pub products-small : (n * m ≤ maxVectorBytes) × ((n * m + o .tile) * S ≤ 65536) × (o .tile * S ≤ 65536) × (m * S ≤ 65536)
     products-small =
         let w = whole-elements (o .size) B valid in
-        let f = stride-fits s valid in
+        let f = stride-fits s laid in
         let v = vector-below in
         let e = block-within n m (B / m) number-below in
         let short : n * m + o .tile ≤ maxVectorBytes = omega (arith, w .longest) in

@@ -4,7 +4,7 @@ ghost use mathlib.Core.Path.{_≡_};
 ghost use mathlib.Core.Bool.{true};
 ghost use Prim.Native.Nat.{_*_, _/_, _<_, _≤_};
 ghost use lib.ListN.{length};
-ghost use Rattle.settings.specs.Settings.{isVectorLength, maxVectorBytes, strideOf};
+ghost use Rattle.settings.specs.Settings.{validVectors, maxVectorBytes, strideOf};
 ghost use Rattle.tiles.specs.Element.{bytesOf};
 ghost use Rattle.tiles.specs.Span.{runFrom, sliceSpan};
 use crate::direction::Direction;
@@ -34,7 +34,7 @@ pub fn run_from(start: usize, settings: Settings, size: ElementSize) -> Span
 
 // The elements of a vector register, or of a vector of the ZA array, by its number.
 pub fn vector_span(number: usize, settings: Settings, size: ElementSize) -> Span
-    requires { ⌜ (isVectorLength (settings .«vector_bytes») ≡ true) × (number ≤ maxVectorBytes) ⌝ }
+    requires { ⌜ (validVectors settings ≡ true) × (number ≤ maxVectorBytes) ⌝ }
     ensures { λ r. ⌜ r ≡ runFrom settings size (number * strideOf settings) ⌝ }
 {
     run_from(number * settings.stride() as usize, settings, size)
@@ -42,7 +42,7 @@ pub fn vector_span(number: usize, settings: Settings, size: ElementSize) -> Span
 
 // The index of a predicate register's first byte.
 pub fn predicate_start(number: u8, settings: Settings) -> usize
-    requires { ⌜ isVectorLength (settings .«vector_bytes») ≡ true ⌝ }
+    requires { ⌜ validVectors settings ≡ true ⌝ }
     ensures { λ r. ⌜ r ≡ number * (strideOf settings / 8) ⌝ }
 {
     number as usize * (settings.stride() as usize / 8)
@@ -50,7 +50,7 @@ pub fn predicate_start(number: u8, settings: Settings) -> usize
 
 // The elements of the slice that a word names.
 pub fn slice_span(slice: TileSlice, settings: Settings, x: &[u64]) -> Span
-    requires { ⌜ (isVectorLength (settings .«vector_bytes») ≡ true) × (slice .index < length (now x)) × (slice .offset < 16) × (slice .tile < bytesOf (slice .size)) ⌝ }
+    requires { ⌜ (validVectors settings ≡ true) × (slice .index < length (now x)) × (slice .offset < 16) × (slice .tile < bytesOf (slice .size)) ⌝ }
     ensures { λ r. ⌜ r ≡ sliceSpan settings (now (x .entry)) slice ⌝ }
 {
     let size = slice.size;

@@ -20,7 +20,7 @@ pub const SEED: u64 = 0x5EC0_0003;
 
 const DEFAULT: Arguments = Arguments {
     seed: SEED,
-    count: 200_000,
+    count: 1_000_000,
     drawn: Drawn::All,
     mistake: Mistake::None,
 };
@@ -49,7 +49,7 @@ impl Arguments {
 pub fn usage() -> String {
     with_mistakes(
         "usage: compare [--seed S] [--count N] [--request 1|2] [--mistake NAME]\n\
-         Compares the archive with the second program on N random states (200000). With --request\n\
+         Compares the archive with the second program on N random states (1000000). With --request\n\
          words are drawn only from the rows that this request added to the table, and only these\n\
          rows are counted and judged, beside words without an encoding. Where there are loads and\n\
          stores among them, worked examples with the answer written out come first. With a mistake\n\

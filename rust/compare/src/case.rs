@@ -1,7 +1,12 @@
 //! One case, and what each of the two programs makes of it.
 
+use crate::beyond::Beyond;
 use second::execute::{execute_with, Buffers, Mistake, Settings};
+use sme_move::numbers;
 use std::hint::black_box;
+
+/// A function that executes a word, as the binding has it.
+pub type Function = fn(sme_move::Settings, u32, sme_move::Buffers<'_>) -> (u32, u64);
 
 /// A state and a word. The buffers are used again for the next case, so
 /// that no case has to ask for room.
@@ -27,6 +32,7 @@ impl Case {
                 za_on: false,
                 memory_address: 0,
                 stack_check: true,
+                largest_vector_bytes: 0,
             },
             word: 0,
             x: Vec::new(),
@@ -39,7 +45,7 @@ impl Case {
 }
 
 /// The answer of one program and the buffers as it left them.
-#[derive(Default)]
+#[derive(Clone, Default)]
 pub struct Outcome {
     pub answer: u32,
     pub address: u64,
@@ -64,10 +70,29 @@ impl Outcome {
         (self.answer, self.address) = execute_with(mistake, &case.settings, case.word, buffers);
     }
 
-    /// Runs the case through the archive. The black boxes keep the compiler
-    /// from taking it that X and P, lent for reading only, are unchanged.
+    /// Runs the case through the archive.
     pub fn run_archive(&mut self, case: &Case) {
+        self.run(numbers::execute, case);
+    }
+
+    /// The same through what is called as the archive.
+    pub fn run(&mut self, unit: Function, case: &Case) {
         self.copy_buffers(case);
+        self.call(unit, case);
+    }
+
+    /// The same with every byte beyond the vector length inverted for the
+    /// call, and turned back after it: one that the call wrote stands out then.
+    pub fn run_inverted(&mut self, unit: Function, case: &Case, beyond: Beyond) {
+        self.copy_buffers(case);
+        beyond.invert(self);
+        self.call(unit, case);
+        beyond.invert(self);
+    }
+
+    /// The black boxes keep the compiler from taking it that X and P, lent for
+    /// reading only, are unchanged.
+    fn call(&mut self, unit: Function, case: &Case) {
         let buffers = sme_move::Buffers {
             x: black_box(&self.x),
             z: &mut self.z,
@@ -76,7 +101,7 @@ impl Outcome {
             memory: &mut self.memory,
         };
         let settings = archive_settings(&case.settings);
-        (self.answer, self.address) = sme_move::numbers::execute(settings, case.word, buffers);
+        (self.answer, self.address) = unit(settings, case.word, buffers);
         black_box((&mut self.x, &mut self.p));
     }
 
@@ -113,5 +138,6 @@ pub fn archive_settings(settings: &Settings) -> sme_move::Settings {
     own.za = settings.za_on;
     own.memory_address = settings.memory_address;
     own.stack_check = settings.stack_check;
+    own.largest_vector_bytes = settings.largest_vector_bytes;
     own
 }

@@ -2,14 +2,21 @@
 
 use crate::accesses::Accesses;
 use crate::case::{Case, Outcome};
+use crate::pairs::PAIRS;
 use crate::rows::Drawn;
 use crate::situations::Situations;
 use crate::table::Table;
 use crate::view::View;
 use std::fmt::{self, Display, Formatter};
 
-/// Below this many cases, a cell of the table may be empty by chance.
-const ENOUGH: u64 = 150_000;
+/// Below this many cases for each row that is drawn from, a cell of the table
+/// may be empty by chance.
+const ENOUGH_FOR_A_ROW: u64 = 20_000;
+
+/// How many cases are enough to ask for all that can occur.
+pub fn enough(drawn: Drawn) -> u64 {
+    ENOUGH_FOR_A_ROW * drawn.rows().len() as u64
+}
 
 /// Counts of the cases on which the two programs agree.
 pub struct Counts {
@@ -61,6 +68,13 @@ impl Counts {
         self.cases
     }
 
+    /// How many of them had buffers for longer vectors.
+    pub fn long_cases(&self) -> u64 {
+        let long = PAIRS.iter().zip(self.table.by_pair());
+        let long = long.filter(|(pair, _)| pair.is_long());
+        long.map(|(_, [cases, _])| cases).sum()
+    }
+
     /// An error, a line for each, if a case that can occur is missing or one
     /// occurred that cannot.
     pub fn check(&self) -> Result<(), String> {
@@ -69,7 +83,7 @@ impl Counts {
 
     fn complaints(&self) -> Vec<String> {
         let mut complaints = self.table.impossible();
-        if self.cases >= ENOUGH {
+        if self.cases >= enough(self.drawn) {
             complaints.extend(self.table.missing());
             complaints.extend(self.situations.missing());
         }
@@ -90,6 +104,9 @@ impl Display for Counts {
     fn fmt(&self, f: &mut Formatter) -> fmt::Result {
         writeln!(f, "{}\n{}", self.table, self.situations)?;
         writeln!(f, "{}", self.table.answers())?;
+        for (pair, [cases, done]) in PAIRS.iter().zip(self.table.by_pair()) {
+            writeln!(f, "{pair}: {cases} cases, {done} done")?;
+        }
         if self.drawn.has_access() {
             writeln!(f, "{}", self.accesses)?;
         }

@@ -8,30 +8,57 @@ use std::fmt::{self, Display, Formatter};
 /// How many bytes are shown before and after the first that differs.
 const AROUND: usize = 16;
 
-/// A case on which the two programs differ.
+/// Between what and what a difference is.
+#[derive(Clone, Copy, Debug, PartialEq, Eq)]
+pub struct Sides {
+    /// What it comes to.
+    pub what: &'static str,
+    /// What the outcome that is wanted is called, and the one that is found.
+    pub names: [&'static str; 2],
+}
+
+impl Sides {
+    pub const PROGRAMS: Sides = Sides {
+        what: "the two programs differ",
+        names: ["second", "archive"],
+    };
+    pub const BEYOND_CHANGED: Sides = Sides {
+        what: "the archive changes bytes beyond the vector length",
+        names: ["kept", "archive"],
+    };
+    pub const BEYOND_MATTERS: Sides = Sides {
+        what: "the archive does otherwise with all bytes beyond the vector length inverted, \
+               which are shown turned back",
+        names: ["archive", "inverted"],
+    };
+}
+
+/// A case on which two outcomes differ that must not.
 pub struct Difference {
     /// The number of the case, the first being 1.
     pub number: u64,
+    pub sides: Sides,
     pub case: Case,
-    pub second: Outcome,
-    pub archive: Outcome,
+    pub wanted: Outcome,
+    pub found: Outcome,
 }
 
 impl Display for Difference {
     fn fmt(&self, f: &mut Formatter) -> fmt::Result {
-        writeln!(f, "DIFFERENCE in case {}", self.number)?;
+        writeln!(f, "DIFFERENCE in case {}: {}", self.number, self.sides.what)?;
         self.write_settings(f)?;
         self.write_word(f)?;
-        let (second, archive) = (&self.second, &self.archive);
+        let (wanted, found) = (&self.wanted, &self.found);
+        let [one, other] = self.sides.names;
         writeln!(
             f,
-            "answer: second {}, archive {}",
-            second.answer, archive.answer
+            "answer: {one} {}, {other} {}",
+            wanted.answer, found.answer
         )?;
         writeln!(
             f,
-            "address: second {:016X}, archive {:016X}",
-            second.address, archive.address
+            "address: {one} {:016X}, {other} {:016X}",
+            wanted.address, found.address
         )?;
         self.write_registers(f)?;
         self.write_buffers(f)
@@ -44,8 +71,9 @@ impl Difference {
         let settings = &case.settings;
         writeln!(
             f,
-            "settings: vector length {}, level {}, streaming {}, ZA {}, memory address {:016X}, stack check {}",
+            "settings: vector length {} in buffers for {}, level {}, streaming {}, ZA {}, memory address {:016X}, stack check {}",
             settings.vector_bytes,
+            settings.largest_vector_bytes,
             settings.level,
             on_or_off(settings.streaming),
             on_or_off(settings.za_on),
@@ -82,7 +110,7 @@ impl Difference {
             }
             writeln!(f)?;
         }
-        let register = (self.case.settings.vector_bytes / 8).clamp(1, 32) as usize;
+        let register = self.apart() / 8;
         for (number, bytes) in self.case.p.chunks(register).enumerate() {
             writeln!(f, "P{number:<2}{}", hexadecimal(bytes))?;
         }
@@ -90,42 +118,57 @@ impl Difference {
     }
 
     fn write_buffers(&self, f: &mut Formatter) -> fmt::Result {
-        let (case, second, archive) = (&self.case, &self.second, &self.archive);
-        if second.x != archive.x {
-            writeln!(f, "X is changed by the archive: {:X?}", archive.x)?;
+        let (case, wanted, found) = (&self.case, &self.wanted, &self.found);
+        if wanted.x != found.x {
+            let [_, name] = self.sides.names;
+            writeln!(f, "X is changed by {name}: {:X?}", found.x)?;
         }
-        let length = case.settings.vector_bytes.clamp(8, 256) as usize;
-        write_buffer(f, "P", length / 8, [&case.p, &second.p, &archive.p])?;
-        write_buffer(f, "Z", length, [&case.z, &second.z, &archive.z])?;
-        write_buffer(f, "ZA", length, [&case.za, &second.za, &archive.za])?;
-        let memories = [&case.memory[..], &second.memory, &archive.memory];
-        write_buffer(f, "memory", 1, memories)
+        let apart = self.apart();
+        self.write_buffer(f, "P", apart / 8, [&case.p, &wanted.p, &found.p])?;
+        self.write_buffer(f, "Z", apart, [&case.z, &wanted.z, &found.z])?;
+        self.write_buffer(f, "ZA", apart, [&case.za, &wanted.za, &found.za])?;
+        let memories = [&case.memory[..], &wanted.memory, &found.memory];
+        self.write_buffer(f, "memory", 1, memories)
     }
-}
 
-/// A buffer before the call and after it on both sides, around the first
-/// byte that differs. `unit` is the length of one of its registers.
-fn write_buffer(f: &mut Formatter, name: &str, unit: usize, states: [&[u8]; 3]) -> fmt::Result {
-    let [before, second, archive] = states;
-    let differs = |at: &usize| second[*at] != archive[*at];
-    let places: Vec<usize> = (0..second.len()).filter(differs).collect();
-    let (Some(first), Some(last)) = (places.first(), places.last()) else {
-        return Ok(());
-    };
-    writeln!(f, "{name}: {} bytes differ", places.len())?;
-    for (end, place) in [("first", first), ("last", last)] {
-        writeln!(
-            f,
-            "  {end}: {place}, byte {} of number {}",
-            place % unit,
-            place / unit
-        )?;
+    /// How far apart vectors start, or what to take for it where that is no
+    /// length.
+    fn apart(&self) -> usize {
+        self.case.settings.largest_vector_bytes.clamp(8, 256) as usize
     }
-    let shown = first.saturating_sub(AROUND)..(first + AROUND).min(before.len());
-    writeln!(f, "  from byte {} on:", shown.start)?;
-    writeln!(f, "  before {}", hexadecimal(&before[shown.clone()]))?;
-    writeln!(f, "  second {}", hexadecimal(&second[shown.clone()]))?;
-    writeln!(f, "  archive{}", hexadecimal(&archive[shown]))
+
+    /// A buffer before the call and after it on both sides, around the first
+    /// byte that differs. `unit` is how far apart its registers start.
+    fn write_buffer(
+        &self,
+        f: &mut Formatter,
+        name: &str,
+        unit: usize,
+        states: [&[u8]; 3],
+    ) -> fmt::Result {
+        let [before, wanted, found] = states;
+        let differs = |at: &usize| wanted[*at] != found[*at];
+        let places: Vec<usize> = (0..wanted.len()).filter(differs).collect();
+        let (Some(first), Some(last)) = (places.first(), places.last()) else {
+            return Ok(());
+        };
+        writeln!(f, "{name}: {} bytes differ", places.len())?;
+        for (end, place) in [("first", first), ("last", last)] {
+            writeln!(
+                f,
+                "  {end}: {place}, byte {} of number {}",
+                place % unit,
+                place / unit
+            )?;
+        }
+        let shown = first.saturating_sub(AROUND)..(first + AROUND).min(before.len());
+        writeln!(f, "  from byte {} on:", shown.start)?;
+        let [one, other] = self.sides.names;
+        for (name, bytes) in [("before", before), (one, wanted), (other, found)] {
+            writeln!(f, "  {name:<8}{}", hexadecimal(&bytes[shown.clone()]))?;
+        }
+        Ok(())
+    }
 }
 
 fn hexadecimal(bytes: &[u8]) -> String {

@@ -6,6 +6,7 @@
 
 mod accesses;
 pub mod arguments;
+pub mod beyond;
 pub mod case;
 pub mod command;
 pub mod counts;
@@ -13,6 +14,8 @@ pub mod difference;
 pub mod exhaustive;
 pub mod generate;
 pub mod names;
+pub mod outcomes;
+pub mod pairs;
 pub mod rows;
 pub mod run;
 pub mod situations;

@@ -5,9 +5,11 @@ use crate::case::{Case, Outcome};
 use crate::counts::Counts;
 use crate::difference::Difference;
 use crate::generate::generate;
+use crate::outcomes::Outcomes;
 use crate::worked;
 use second::execute::Mistake;
 use second::inputs::random::Random;
+use sme_move::numbers;
 
 /// Runs what the command line asks for. True if it passes.
 pub fn run(arguments: &Arguments) -> bool {
@@ -48,6 +50,10 @@ fn compare(arguments: &Arguments) -> bool {
         return false;
     }
     print!("{counts}");
+    println!(
+        "{} cases in buffers for longer vectors, each the same again with every byte beyond inverted",
+        counts.long_cases()
+    );
     println!("{} cases, no difference", counts.cases());
     match counts.check() {
         Ok(()) => true,
@@ -80,21 +86,19 @@ pub fn first_difference(
 ) -> Option<Difference> {
     let mut random = Random::new(arguments.seed);
     let mut case = Case::empty();
-    let mut second = Outcome::default();
-    let mut archive = Outcome::default();
+    let mut outcomes = Outcomes::new(numbers::execute);
     for number in 1..=arguments.count {
         generate(&mut random, &mut case, arguments.drawn);
-        second.run_second(&case, arguments.mistake);
-        archive.run_archive(&case);
-        if !second.agrees(&archive) {
+        if let Some((sides, wanted, found)) = outcomes.compare(&case, arguments.mistake) {
             return Some(Difference {
                 number,
+                sides,
                 case,
-                second,
-                archive,
+                wanted,
+                found,
             });
         }
-        agreed(&case, &second);
+        agreed(&case, outcomes.agreed());
     }
     None
 }

@@ -1,8 +1,9 @@
-//! How often each answer was given, by encoding, vector length and position
-//! of the stack check.
+//! How often each answer was given, by encoding, pair of vector lengths and
+//! position of the stack check.
 
 use crate::case::Case;
 use crate::names::{is_access, on_or_off, Named, FAULT};
+use crate::pairs::{Pair, PAIRS};
 use crate::rows::{encoding, Drawn, NO_ENCODING, TABLE};
 use second::execute::VECTOR_LENGTHS;
 use sme_move::Refusal;
@@ -44,29 +45,34 @@ pub(crate) const NAMES: [&str; NO_ENCODING + 1] = [
 ];
 /// The answers of execution, 0 to 7.
 const ANSWERS: usize = FAULT.number() as usize + 1;
-/// The one that a vector length which is none of the five gets.
+const DONE: usize = 0;
+/// The one that vector lengths get which are no pair.
 const BAD_SETTINGS: usize = Refusal::BadSettings.number() as usize;
 /// The positions of the stack check, in the order of the lines: on has number
 /// 0 and off number 1.
 const POSITIONS: [bool; 2] = [true, false];
 
-/// Counts by encoding, vector length, position of the stack check and
+/// What is wrong with vector lengths that are no pair: the vector length is
+/// none of the five, or the largest one is none or below it.
+const OTHERS: [&str; 2] = ["length", "largest"];
+
+/// Counts by encoding, pair of vector lengths, position of the stack check and
 /// answer, of cases that are drawn from some rows.
 ///
-/// A case whose vector length is not one of the five has no line to stand
-/// in; it is answered 1 and counted apart, by encoding and position.
+/// A case whose vector lengths are no pair has no line to stand in; it is
+/// answered 1 and counted apart, by encoding, what is wrong and position.
 pub struct Table {
     drawn: Drawn,
-    counts: [[[[u64; ANSWERS]; POSITIONS.len()]; VECTOR_LENGTHS.len()]; NAMES.len()],
-    other_length: [[u64; POSITIONS.len()]; NAMES.len()],
+    counts: Vec<[[[u64; ANSWERS]; POSITIONS.len()]; PAIRS.len()]>,
+    others: [[[u64; POSITIONS.len()]; OTHERS.len()]; NAMES.len()],
     strange: Vec<String>,
 }
 
-/// A line of the table: the cases of one encoding that have one of the five
-/// vector lengths and the stack check in one position.
+/// A line of the table: the cases of one encoding that have one of the pairs
+/// and the stack check in one position.
 struct Line<'a> {
     row: usize,
-    vector_bytes: u64,
+    pair: Pair,
     stack_check: bool,
     counts: &'a [u64; ANSWERS],
 }
@@ -76,8 +82,8 @@ impl Table {
     pub fn new(drawn: Drawn) -> Table {
         Table {
             drawn,
-            counts: [[[[0; ANSWERS]; POSITIONS.len()]; VECTOR_LENGTHS.len()]; NAMES.len()],
-            other_length: [[0; POSITIONS.len()]; NAMES.len()],
+            counts: vec![[[[0; ANSWERS]; POSITIONS.len()]; PAIRS.len()]; NAMES.len()],
+            others: [[[0; POSITIONS.len()]; OTHERS.len()]; NAMES.len()],
             strange: Vec::new(),
         }
     }
@@ -85,18 +91,20 @@ impl Table {
     /// Counts one case.
     pub fn add(&mut self, case: &Case, answer: u32) {
         let row = encoding(case.word).unwrap_or(NO_ENCODING);
-        let given = case.settings.vector_bytes;
-        let length = VECTOR_LENGTHS.iter().position(|own| *own == given);
-        let position = usize::from(!case.settings.stack_check);
+        let settings = &case.settings;
+        let position = usize::from(!settings.stack_check);
         let drawn = self.drawn.has(row);
-        match (length, answer as usize) {
-            (Some(length), answer) if drawn && answer < ANSWERS => {
-                self.counts[row][length][position][answer] += 1;
+        match (Pair::number(settings), answer as usize) {
+            (Some(pair), answer) if drawn && answer < ANSWERS => {
+                self.counts[row][pair][position][answer] += 1;
             }
-            (None, BAD_SETTINGS) if drawn => self.other_length[row][position] += 1,
+            (None, BAD_SETTINGS) if drawn => {
+                let other = usize::from(VECTOR_LENGTHS.contains(&settings.vector_bytes));
+                self.others[row][other][position] += 1;
+            }
             _ => self.strange.push(format!(
-                "{}, vector length {given}: answer {answer}",
-                NAMES[row]
+                "{}, vector length {} in buffers for {}: answer {answer}",
+                NAMES[row], settings.vector_bytes, settings.largest_vector_bytes
             )),
         }
     }
@@ -108,8 +116,8 @@ impl Table {
         for (own, other) in cells.zip(other.counts.iter().flatten().flatten().flatten()) {
             *own += other;
         }
-        let apart = self.other_length.iter_mut().flatten();
-        for (own, other) in apart.zip(other.other_length.iter().flatten()) {
+        let apart = self.others.iter_mut().flatten().flatten();
+        for (own, other) in apart.zip(other.others.iter().flatten().flatten()) {
             *own += other;
         }
         self.strange.extend(other.strange);
@@ -120,15 +128,14 @@ impl Table {
     pub fn missing(&self) -> Vec<String> {
         let mut missing = self.cells(|possible, count| possible && count == 0);
         for (row, name) in self.names() {
-            for (stack_check, count) in POSITIONS.into_iter().zip(self.other_length[row]) {
+            for (other, stack, count) in self.others_of(row) {
                 if count == 0 {
-                    let stack = on_or_off(stack_check);
-                    let cell = format!("{name}, other vector length, stack check {stack}");
+                    let cell = format!("{name}, wrong {other}, stack check {stack}");
                     missing.push(format!("{cell}: 0 cases"));
                 }
             }
         }
-        if 2 * self.answered(0) < self.total() {
+        if 2 * self.answered(DONE) < self.total() {
             missing.push("less than half of the cases are done".to_string());
         }
         missing
@@ -170,7 +177,7 @@ impl Table {
     /// How many of them had the stack check in the position of this number.
     fn answered_at(&self, position: usize, answer: usize) -> u64 {
         let lines = self.counts.iter().flatten();
-        let apart = self.other_length.iter().map(|own| own[position]);
+        let apart = self.others.iter().flatten().map(|own| own[position]);
         let apart = if answer == BAD_SETTINGS {
             apart.sum()
         } else {
@@ -181,6 +188,27 @@ impl Table {
 
     fn total(&self) -> u64 {
         (0..ANSWERS).map(|answer| self.answered(answer)).sum()
+    }
+
+    /// How many cases had each pair, and how many of them were done.
+    pub fn by_pair(&self) -> impl Iterator<Item = [u64; 2]> + '_ {
+        (0..PAIRS.len()).map(|pair| {
+            let lines = || self.counts.iter().flat_map(move |own| &own[pair]);
+            [
+                lines().flatten().sum(),
+                lines().map(|line| line[DONE]).sum(),
+            ]
+        })
+    }
+
+    /// The cases of one row that are counted apart: what is wrong, the
+    /// position of the stack check, and how many there are.
+    fn others_of(&self, row: usize) -> impl Iterator<Item = (&str, &str, u64)> {
+        let others = OTHERS.into_iter().zip(self.others[row]);
+        others.flat_map(|(other, counts)| {
+            let positions = POSITIONS.into_iter().zip(counts);
+            positions.map(move |(stack_check, count)| (other, on_or_off(stack_check), count))
+        })
     }
 
     /// The rows that are drawn from, and the words without an encoding.
@@ -195,15 +223,15 @@ impl Table {
         self.names().flat_map(|(row, _)| self.lines_of(row))
     }
 
-    /// The lines of one row: for each vector length, one with the stack check
-    /// on and one with it off.
+    /// The lines of one row: for each pair, one with the stack check on and
+    /// one with it off.
     fn lines_of(&self, row: usize) -> impl Iterator<Item = Line<'_>> {
-        let lengths = VECTOR_LENGTHS.into_iter().zip(&self.counts[row]);
-        lengths.flat_map(move |(vector_bytes, positions)| {
+        let pairs = PAIRS.into_iter().zip(&self.counts[row]);
+        pairs.flat_map(move |(pair, positions)| {
             let positions = POSITIONS.into_iter().zip(positions);
             positions.map(move |(stack_check, counts)| Line {
                 row,
-                vector_bytes,
+                pair,
                 stack_check,
                 counts,
             })
@@ -241,30 +269,32 @@ impl Line<'_> {
 /// What the line is called where a cell of it is told of.
 impl Display for Line<'_> {
     fn fmt(&self, f: &mut Formatter) -> fmt::Result {
-        let (name, bytes) = (NAMES[self.row], self.vector_bytes);
+        let (name, pair) = (NAMES[self.row], self.pair);
         let stack = on_or_off(self.stack_check);
-        write!(f, "{name}, vector length {bytes}, stack check {stack}")
+        write!(f, "{name}, {pair}, stack check {stack}")
     }
 }
 
 impl Display for Table {
     fn fmt(&self, f: &mut Formatter) -> fmt::Result {
         let numbers = (0..ANSWERS).map(|answer| answer.to_string());
-        write_line(f, "encoding", "length", "stack", numbers)?;
+        write_line(f, ["encoding", "length", "buffers", "stack"], numbers)?;
         for (row, name) in self.names() {
             for line in self.lines_of(row) {
-                let length = line.vector_bytes.to_string();
+                let [length, largest] =
+                    [line.pair.vector_bytes, line.pair.largest].map(|bytes| bytes.to_string());
                 let told = (0..ANSWERS).map(|answer| line.told(answer));
-                write_line(f, name, &length, on_or_off(line.stack_check), told)?;
+                let stack = on_or_off(line.stack_check);
+                write_line(f, [name, &length, &largest, stack], told)?;
             }
-            for (stack_check, count) in POSITIONS.into_iter().zip(self.other_length[row]) {
+            for (other, stack, count) in self.others_of(row) {
                 let told = ["-".to_string(), count.to_string()];
-                write_line(f, name, "other", on_or_off(stack_check), told)?;
+                write_line(f, [name, "wrong", other, stack], told)?;
             }
         }
         for (position, stack_check) in POSITIONS.into_iter().enumerate() {
             let told = (0..ANSWERS).map(|answer| self.answered_at(position, answer).to_string());
-            write_line(f, "all", "", on_or_off(stack_check), told)?;
+            write_line(f, ["all", "", "", on_or_off(stack_check)], told)?;
         }
         Ok(())
     }
@@ -273,12 +303,10 @@ impl Display for Table {
 /// One line, in columns.
 fn write_line(
     f: &mut Formatter,
-    name: &str,
-    length: &str,
-    stack: &str,
+    [name, length, largest, stack]: [&str; 4],
     told: impl IntoIterator<Item = String>,
 ) -> fmt::Result {
-    write!(f, "{name:<30} {length:>6} {stack:>5}")?;
+    write!(f, "{name:<30} {length:>6} {largest:>7} {stack:>5}")?;
     for own in told {
         write!(f, " {own:>8}")?;
     }

@@ -2,11 +2,12 @@
 
 use crate::arguments::Arguments;
 use crate::case::{Case, Outcome};
-use crate::counts::Counts;
+use crate::counts::{enough, Counts};
 use crate::exhaustive::arguments as exhaustive;
 use crate::exhaustive::progress;
 use crate::generate::generate;
 use crate::names::{self, is_access, Named};
+use crate::pairs::{Pair, PAIRS};
 use crate::rows::{encoding, Drawn, NO_ENCODING, OF_DOCUMENT, TABLE};
 use crate::table::{Table, NAMES};
 use crate::worked;
@@ -26,7 +27,7 @@ fn read(line: &str) -> Result<Arguments, String> {
 #[test]
 fn arguments_are_read() {
     let plain = read("").unwrap();
-    assert_eq!((plain.count, plain.mistake), (200_000, Mistake::None));
+    assert_eq!((plain.count, plain.mistake), (1_000_000, Mistake::None));
     assert_eq!(plain.drawn, Drawn::All);
     let all = read("--mistake TileAsBlock --seed 0x1F --request 1 --count 12").unwrap();
     assert_eq!((all.seed, all.count), (31, 12));
@@ -97,21 +98,33 @@ fn progress_tells_what_is_left() {
 }
 
 /// As many cases as are judged, by the second program alone, leave nothing to
-/// complain of, and neither do as many of the words of each request.
+/// complain of.
+fn reach_all_that_can_occur(drawn: Drawn) {
+    let mut random = Random::new(11);
+    let mut case = Case::empty();
+    let mut outcome = Outcome::default();
+    let mut counts = Counts::new(drawn);
+    for _ in 0..enough(drawn) {
+        generate(&mut random, &mut case, drawn);
+        outcome.run_second(&case, Mistake::None);
+        counts.add(&case, &outcome);
+    }
+    assert_eq!(counts.check(), Ok(()));
+}
+
 #[test]
 fn cases_reach_all_that_can_occur() {
-    for drawn in EACH {
-        let mut random = Random::new(11);
-        let mut case = Case::empty();
-        let mut outcome = Outcome::default();
-        let mut counts = Counts::new(drawn);
-        for _ in 0..150_000 {
-            generate(&mut random, &mut case, drawn);
-            outcome.run_second(&case, Mistake::None);
-            counts.add(&case, &outcome);
-        }
-        assert_eq!(counts.check(), Ok(()), "{drawn:?}");
-    }
+    reach_all_that_can_occur(Drawn::All);
+}
+
+#[test]
+fn cases_of_request_1_reach_all_that_can_occur() {
+    reach_all_that_can_occur(Drawn::Request1);
+}
+
+#[test]
+fn cases_of_request_2_reach_all_that_can_occur() {
+    reach_all_that_can_occur(Drawn::Request2);
 }
 
 /// A run that never had long memory is told so, of loads and stores done and
@@ -121,9 +134,9 @@ fn missing_long_memory_is_told() {
     let mut random = Random::new(11);
     let mut case = Case::empty();
     let mut outcome = Outcome::default();
-    let mut counts = Counts::new(Drawn::All);
-    while counts.cases() < 150_000 {
-        generate(&mut random, &mut case, Drawn::All);
+    let mut counts = Counts::new(Drawn::Request2);
+    while counts.cases() < enough(Drawn::Request2) {
+        generate(&mut random, &mut case, Drawn::Request2);
         if case.memory.len() < 1 << 10 {
             outcome.run_second(&case, Mistake::None);
             counts.add(&case, &outcome);
@@ -133,7 +146,7 @@ fn missing_long_memory_is_told() {
     let of_memory = |line: &str| line.contains("KiB") || line.contains("of memory on");
     assert!(told.lines().all(of_memory), "{told}");
     for name in ["store", "load"] {
-        for m in [1, 2, 4, 8, 16] {
+        for m in [2, 4, 8, 16] {
             for what in ["done", "fault"] {
                 let line = format!("never: {name}, m={m}, {what}, memory of over 64 KiB to 1 MiB");
                 assert!(told.contains(&line), "{line}");
@@ -152,7 +165,7 @@ fn missing_positions_of_the_stack_check_are_told() {
         let mut case = Case::empty();
         let mut outcome = Outcome::default();
         let mut counts = Counts::new(Drawn::Request2);
-        for _ in 0..150_000 {
+        for _ in 0..enough(Drawn::Request2) {
             generate(&mut random, &mut case, Drawn::Request2);
             case.settings.stack_check = stack_check;
             outcome.run_second(&case, Mistake::None);
@@ -161,7 +174,8 @@ fn missing_positions_of_the_stack_check_are_told() {
         let told = counts.check().expect_err("a position is missing");
         let missing = format!("stack check {}", names::on_or_off(!stack_check));
         for name in &NAMES[Drawn::Request2.rows()] {
-            let line = format!("{name}, vector length 16, {missing}, answer 0: 0 cases");
+            let lengths = "vector length 16 in buffers for 64";
+            let line = format!("{name}, {lengths}, {missing}, answer 0: 0 cases");
             assert!(told.contains(&line), "{line}");
         }
         for name in ["store", "load"] {
@@ -175,6 +189,68 @@ fn missing_positions_of_the_stack_check_are_told() {
             }
         }
     }
+}
+
+/// A run that never had buffers for longer vectors is told so of every pair
+/// and encoding, and of what else has to be met there, and of nothing else.
+#[test]
+fn missing_long_buffers_are_told() {
+    let drawn = Drawn::Request1;
+    let mut random = Random::new(11);
+    let mut case = Case::empty();
+    let mut outcome = Outcome::default();
+    let mut counts = Counts::new(drawn);
+    while counts.cases() < enough(drawn) {
+        generate(&mut random, &mut case, drawn);
+        if case.settings.vector_bytes >= case.settings.largest_vector_bytes {
+            outcome.run_second(&case, Mistake::None);
+            counts.add(&case, &outcome);
+        }
+    }
+    let told = counts.check().expect_err("long buffers are missing");
+    for pair in PAIRS {
+        for name in &NAMES[drawn.rows()] {
+            let line = format!("{name}, {pair}, stack check on, answer 0: 0 cases");
+            assert_eq!(told.contains(&line), pair.is_long(), "{line}");
+        }
+        let line = format!("never: done, {pair}, another vertical slice");
+        assert_eq!(told.contains(&line), pair.is_long(), "{line}");
+    }
+    for what in [
+        "never: Z, P and ZA as the vector length would fix, only that wrong, 2",
+        "never: done, move from tile, long buffers, no element active, all bits beyond set",
+    ] {
+        assert!(told.contains(what), "{what}");
+    }
+    let of_largest = |line: &str| line.contains("in buffers") || line.contains("largest");
+    let of_beyond = |line: &str| line.contains("long buffers") || line.contains("would fix");
+    assert!(
+        told.lines().all(|line| of_largest(line) || of_beyond(line)),
+        "{told}"
+    );
+}
+
+/// Half of all cases have buffers for their own vectors, and in each half
+/// every pair has its share.
+#[test]
+fn every_pair_has_its_share() {
+    let mut random = Random::new(12);
+    let mut counts = [0; PAIRS.len()];
+    for _ in 0..100_000 {
+        let pair = Pair::draw(&mut random);
+        let number = PAIRS.iter().position(|own| *own == pair);
+        counts[number.expect("it is a pair")] += 1;
+    }
+    let of = |long: bool| {
+        let own = PAIRS
+            .iter()
+            .zip(counts)
+            .filter(|(pair, _)| pair.is_long() == long);
+        own.map(|(_, count)| count).collect::<Vec<_>>()
+    };
+    assert_eq!((of(false).len(), of(true).len()), (5, 10));
+    assert!(share(&of(false)).abs_diff(10_000) < 500);
+    assert!(share(&of(true)).abs_diff(5_000) < 250);
 }
 
 /// How many of 100,000 cases have words of each row, and of none.
@@ -266,9 +342,9 @@ fn rows_of_requests_come_after_those_of_the_document() {
 }
 
 /// An empty run has much to complain of: each encoding has six answers, a
-/// load or store eight, the words without an encoding three, each at five
-/// lengths, and each has a cell apart. All of it there is with the stack check
-/// on and with it off, but for answer 6.
+/// load or store eight, the words without an encoding three, each at fifteen
+/// pairs of lengths, and each has two cells apart. All of it there is with the
+/// stack check on and with it off, but for answer 6.
 #[test]
 fn missing_cells_are_told() {
     for (drawn, moves, accesses) in [
@@ -278,7 +354,7 @@ fn missing_cells_are_told() {
     ] {
         let missing = Table::new(drawn).missing();
         let cells = 2 * (moves * 6 + accesses * 8 + 3) - accesses;
-        assert_eq!(missing.len(), cells * 5 + 2 * (moves + accesses + 1));
+        assert_eq!(missing.len(), cells * 15 + 4 * (moves + accesses + 1));
     }
 }
 
@@ -286,7 +362,10 @@ fn missing_cells_are_told() {
 #[test]
 fn impossible_cells_are_told() {
     let mut case = Case::empty();
-    case.settings.vector_bytes = 16;
+    (
+        case.settings.vector_bytes,
+        case.settings.largest_vector_bytes,
+    ) = (16, 32);
     case.word = 0xC000_0010;
     for (answer, told) in [(0, 1), (2, 0), (3, 0), (5, 1), (7, 1), (255, 1)] {
         let mut table = Table::new(Drawn::All);
@@ -299,7 +378,10 @@ fn impossible_cells_are_told() {
 #[test]
 fn answer_6_is_told_with_the_stack_check_off() {
     let mut case = Case::empty();
-    case.settings.vector_bytes = 16;
+    (
+        case.settings.vector_bytes,
+        case.settings.largest_vector_bytes,
+    ) = (16, 16);
     for word in [0xE03F_03E0, 0xE01F_03E0] {
         case.word = word;
         for (stack_check, told) in [(true, 0), (false, 1)] {
@@ -316,8 +398,11 @@ fn answer_6_is_told_with_the_stack_check_off() {
 #[test]
 fn words_that_are_not_drawn_are_told() {
     let mut case = Case::empty();
-    for vector_bytes in [16, 17] {
-        case.settings.vector_bytes = vector_bytes;
+    for lengths in [(16, 16), (16, 256), (17, 17), (32, 16)] {
+        (
+            case.settings.vector_bytes,
+            case.settings.largest_vector_bytes,
+        ) = lengths;
         // A word of document 01, one of each request, and one of none.
         for (word, told) in [
             (0xE020_0000, [0, 1, 1]),
@@ -362,7 +447,8 @@ fn worked_examples_are_held_to_each_part() {
     }
 }
 
-/// Each mistake about loads and stores is one that a worked example tells.
+/// Each mistake about loads and stores, or about where vectors lie, is one
+/// that a worked example tells.
 #[test]
 fn worked_examples_tell_mistakes() {
     for mistake in [
@@ -383,6 +469,14 @@ fn worked_examples_tell_mistakes() {
         Mistake::StackSwitchIgnored,
         Mistake::StackSwitchInverted,
         Mistake::StackSwitchForStoresOnly,
+        Mistake::RegistersPacked,
+        Mistake::PredicatesPacked,
+        Mistake::ZaVectorsPacked,
+        Mistake::LengthsByVectorLength,
+        Mistake::LargestBelowAccepted,
+        Mistake::BeyondCleared,
+        Mistake::GroupsByLargest,
+        Mistake::SlicesByLargest,
     ] {
         let told = |worked: &worked::Worked| {
             let mut outcome = Outcome::default();

@@ -54,6 +54,11 @@ impl<'a> View<'a> {
         self.case.settings.vector_bytes
     }
 
+    /// How far apart vectors start in their buffers.
+    pub fn largest(&self) -> u64 {
+        self.case.settings.largest_vector_bytes
+    }
+
     /// The operation, if it is a load or store.
     pub fn access(&self) -> Option<Flat> {
         self.operation.filter(|own| is_access(own.kind()))
@@ -96,7 +101,7 @@ impl<'a> View<'a> {
             Direction::Vertical => (e, slice),
         };
         let vector = row * m + usize::from(own.tile);
-        let first = vector * self.vector_bytes() as usize + column * m;
+        let first = vector * self.largest() as usize + column * m;
         first..first + m
     }
 
@@ -215,8 +220,12 @@ fn parts(operation: &Flat) -> u64 {
 
 /// The bytes of a predicate register, or none where P is too short.
 fn predicate(case: &Case, register: u8) -> &[u8] {
-    let length = (case.settings.vector_bytes / 8).min(64) as usize;
-    let first = usize::from(register) * length;
+    let [length, apart] = [
+        case.settings.vector_bytes,
+        case.settings.largest_vector_bytes,
+    ]
+    .map(|bytes| (bytes / 8).min(64) as usize);
+    let first = usize::from(register) * apart;
     case.p.get(first..first + length).unwrap_or(&[])
 }
 

@@ -86,6 +86,20 @@ fn lines_are_chosen_by_a_part_of_their_name() {
 }
 
 #[test]
+fn calls_in_long_buffers_have_a_table_of_their_own() {
+    let printed = quick("move from array, two", &[]);
+    let lines: Vec<_> = printed.lines().collect();
+    // A heading of two lines, five lengths, another heading, the one length in long buffers, and the goals.
+    assert_eq!(lines.len(), 2 + 5 + 2 + 1 + 1, "{printed}");
+    assert!(lines[7].starts_with("long buffers: "), "{printed}");
+    assert!(lines[8].ends_with("/close"), "{printed}");
+    assert!(lines[9].starts_with("move from array, two, buffers for 256     64 "));
+    // The same call in close buffers is timed with it.
+    let printed = quick("move from array, two, buffers for", &[]);
+    assert_eq!(printed.lines().count(), 2 + 1 + 2 + 1 + 1, "{printed}");
+}
+
+#[test]
 fn a_saved_run_is_compared_with_a_later_one() {
     let (first, second) = (path("first"), path("second"));
     quick("answer 1, level", &["--save", text(&first)]);

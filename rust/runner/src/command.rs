@@ -133,7 +133,7 @@ fn write_outputs(outputs: &Outputs, script: &Script, machine: &Machine) -> Resul
         write_file(file, &machine.memory)?;
     }
     if let Some(file) = &outputs.array {
-        write_file(file, &machine.state.za)?;
+        write_file(file, &machine.array())?;
     }
     Ok(())
 }

@@ -85,6 +85,10 @@ fn settings(machine: &Machine) -> Json {
         ("memory_address", Json::address(settings.memory_address)),
         ("memory_bytes", Json::Number(machine.memory.len())),
         ("stack_check", Json::Bool(settings.stack_check)),
+        (
+            "largest_vector_bytes",
+            Json::Number(settings.largest_vector_bytes as usize),
+        ),
     ])
 }
 

@@ -2,13 +2,16 @@
 
 use crate::access::first_address;
 use crate::operation::Parts;
-use crate::script::{Action, Place, Script, Subject};
+use crate::script::{Action, Place, Script, Subject, PLACES};
 use sme_move::{decode, Direction, Operation, Refusal, Settings, State};
 use std::borrow::Cow;
 use std::ops::Range;
 
 /// How many bytes of memory are shown as a row.
 pub const MEMORY_ROW: usize = 16;
+
+/// What is between vectors and between predicates. It is not zero, so that zeros written there are noticed too.
+const BETWEEN: u8 = 0xA5;
 
 pub struct Machine {
     pub settings: Settings,
@@ -39,9 +42,17 @@ impl Execution {
 impl Machine {
     /// A machine that holds zeros and the script's memory.
     pub fn new(script: &Script) -> Machine {
+        let settings = script.settings;
+        let mut state = State::new(settings).expect("a script's settings are checked");
+        for place in PLACES {
+            let buffer = place.buffer_mut(&mut state);
+            for range in place.between(settings) {
+                buffer[range].fill(BETWEEN);
+            }
+        }
         Machine {
-            settings: script.settings,
-            state: State::new(script.settings).expect("a script's settings are checked"),
+            settings,
+            state,
             memory: script.memory.clone(),
         }
     }
@@ -59,22 +70,32 @@ impl Machine {
                 number,
                 bytes,
             } => self.member_mut(*place, *number).copy_from_slice(bytes),
-            Action::Array(bytes) => self.state.za.copy_from_slice(bytes),
+            Action::Array(bytes) => self.set_array(bytes),
             Action::Word(_) | Action::Expect(_) => {}
         }
     }
 
     /// A vector register, a predicate or a vector of the array.
     pub fn member(&self, place: Place, number: usize) -> &[u8] {
-        member(&self.state, place, number, self.vector_bytes())
+        member(&self.state, place, number, self.settings)
     }
 
     fn member_mut(&mut self, place: Place, number: usize) -> &mut [u8] {
-        let range = place.range(number, self.vector_bytes());
-        match place {
-            Place::Vector => &mut self.state.z[range],
-            Place::Predicate => &mut self.state.p[range],
-            Place::Array => &mut self.state.za[range],
+        let range = place.range(number, self.settings);
+        &mut place.buffer_mut(&mut self.state)[range]
+    }
+
+    /// All vectors of the array without what is between them, as files have them.
+    pub fn array(&self) -> Vec<u8> {
+        let numbers = 0..Place::Array.members(self.vector_bytes());
+        let vectors = numbers.map(|number| self.member(Place::Array, number));
+        vectors.collect::<Vec<_>>().concat()
+    }
+
+    fn set_array(&mut self, bytes: &[u8]) {
+        for (number, vector) in bytes.chunks(self.vector_bytes()).enumerate() {
+            self.member_mut(Place::Array, number)
+                .copy_from_slice(vector);
         }
     }
 
@@ -114,6 +135,7 @@ impl Machine {
         format!("{:016X}", start.wrapping_add((row * MEMORY_ROW) as u64))
     }
 
+    /// Panics where the unit changes what is between vectors or predicates: it is promised not to.
     pub fn execute(&mut self, word: u32) -> Execution {
         let operation = decode(word, self.settings.level);
         let reach = operation.map_or(0..0, |operation| self.stored(Parts::of(operation)));
@@ -121,6 +143,10 @@ impl Machine {
         let memory_before = self.memory[reach].to_vec();
         let state_before = self.state.clone();
         let answer = self.state.execute(self.settings, word, &mut self.memory);
+        assert!(
+            self.kept_between(&state_before),
+            "the archive changed bytes beyond the vector length, by word {word:08X}"
+        );
         Execution {
             word,
             operation,
@@ -129,6 +155,15 @@ impl Machine {
             memory_before,
             memory_start,
         }
+    }
+
+    /// Whether what is between vectors and between predicates is as it was.
+    fn kept_between(&self, before: &State) -> bool {
+        PLACES.into_iter().all(|place| {
+            let (before, after) = (place.buffer(before), place.buffer(&self.state));
+            let mut between = place.between(self.settings);
+            between.all(|range| before[range.clone()] == after[range])
+        })
     }
 
     /// The rows of memory that a store may reach: those with the addresses of its slice, which is one vector long.
@@ -153,13 +188,8 @@ impl Machine {
 }
 
 /// A vector register, a predicate or a vector of the array of some state.
-pub fn member(state: &State, place: Place, number: usize, vector_bytes: usize) -> &[u8] {
-    let range = place.range(number, vector_bytes);
-    match place {
-        Place::Vector => &state.z[range],
-        Place::Predicate => &state.p[range],
-        Place::Array => &state.za[range],
-    }
+pub fn member(state: &State, place: Place, number: usize, settings: Settings) -> &[u8] {
+    &place.buffer(state)[place.range(number, settings)]
 }
 
 #[cfg(test)]

@@ -79,8 +79,9 @@ fn settings(machine: &Machine) -> String {
         ),
     };
     format!(
-        "vectors of {} bytes, level {}, streaming {}, array {}, stack check {}, {memory}",
+        "vectors of {} bytes in buffers for {}, level {}, streaming {}, array {}, stack check {}, {memory}",
         settings.vector_bytes,
+        settings.largest_vector_bytes,
         settings.level,
         on(settings.streaming),
         on(settings.za),

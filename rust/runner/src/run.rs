@@ -128,9 +128,9 @@ impl Tally {
     }
 
     fn changes(&mut self, execution: &Execution, machine: &Machine) {
-        let length = machine.vector_bytes();
+        let apart = machine.settings.largest_vector_bytes as usize;
         let (before, after) = (&execution.state_before.z, &machine.state.z);
-        self.registers.extend(changed(before, after, length));
+        self.registers.extend(changed(before, after, apart));
         let (before, after) = (&execution.memory_before, execution.memory_after(machine));
         let first = execution.memory_start / MEMORY_ROW;
         let rows = changed(before, after, MEMORY_ROW).map(|row| first + row);

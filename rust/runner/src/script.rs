@@ -6,7 +6,7 @@ mod files;
 mod members;
 mod parser;
 
-use sme_move::Settings;
+use sme_move::{Settings, State};
 use std::ops::Range;
 
 pub use draft::vector_bytes;
@@ -73,6 +73,8 @@ pub enum Place {
     Array,
 }
 
+pub const PLACES: [Place; 3] = [Place::Vector, Place::Predicate, Place::Array];
+
 impl Place {
     /// What one of its members is called.
     pub fn member(self) -> &'static str {
@@ -98,10 +100,42 @@ impl Place {
         }
     }
 
-    /// Where a member lies among the bytes of all.
-    pub fn range(self, number: usize, vector_bytes: usize) -> Range<usize> {
-        let length = self.member_bytes(vector_bytes);
-        number * length..(number + 1) * length
+    /// The buffer that has all members.
+    pub fn buffer(self, state: &State) -> &[u8] {
+        match self {
+            Place::Vector => &state.z,
+            Place::Predicate => &state.p,
+            Place::Array => &state.za,
+        }
+    }
+
+    pub fn buffer_mut(self, state: &mut State) -> &mut [u8] {
+        match self {
+            Place::Vector => &mut state.z,
+            Place::Predicate => &mut state.p,
+            Place::Array => &mut state.za,
+        }
+    }
+
+    /// Where a member lies in the buffer, which is laid out for the largest vector length.
+    pub fn range(self, number: usize, settings: Settings) -> Range<usize> {
+        let start = number * self.member_bytes(settings.largest_vector_bytes as usize);
+        start..start + self.member_bytes(settings.vector_bytes as usize)
+    }
+
+    /// Where in the buffer there is no member: behind each of them, and where more would be if vectors were longer.
+    pub fn between(self, settings: Settings) -> impl Iterator<Item = Range<usize>> {
+        let [count, places] = [settings.vector_bytes, settings.largest_vector_bytes]
+            .map(|bytes| self.members(bytes as usize));
+        (0..places).map(move |number| {
+            let member = self.range(number, settings);
+            let start = if number < count {
+                member.end
+            } else {
+                member.start
+            };
+            start..self.range(number + 1, settings).start
+        })
     }
 }
 

@@ -19,16 +19,18 @@ use std::path::{Path, PathBuf};
 use std::time::Instant;
 use verdict::{judge, Verdict};
 
-const SCRIPTS: [&str; 18] = [
+const SCRIPTS: [&str; 20] = [
     include_str!("../example.txt"),
     include_str!("scripts/access.txt"),
     include_str!("scripts/array.txt"),
     include_str!("scripts/fetch.txt"),
     include_str!("scripts/large.txt"),
+    include_str!("scripts/long.txt"),
     include_str!("scripts/refused.txt"),
     include_str!("scripts/store.txt"),
     include_str!("scripts/top.txt"),
     include_str!("../../../examples/scripts/load.txt"),
+    include_str!("../../../examples/scripts/long-buffers.txt"),
     include_str!("../../../examples/scripts/move-and-zero-from-array.txt"),
     include_str!("../../../examples/scripts/move-and-zero-from-tile.txt"),
     include_str!("../../../examples/scripts/move-from-array.txt"),

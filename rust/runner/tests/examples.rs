@@ -1,5 +1,5 @@
-//! The scripts of examples/scripts: each shows one kind of word, the stack check off, or the transposition of a
-//! matrix, and what it expects holds, and fails if it is changed.
+//! The scripts of examples/scripts: each shows one kind of word, the stack check off, short vectors in long buffers, or
+//! the transposition of a matrix, and what it expects holds, and fails if it is changed.
 
 mod common;
 
@@ -31,7 +31,8 @@ fn script(name: &str) -> String {
 }
 
 fn names() -> impl Iterator<Item = &'static str> {
-    KINDS.into_iter().chain(["stack-check", "transpose"])
+    let others = ["long-buffers", "stack-check", "transpose"];
+    KINDS.into_iter().chain(others)
 }
 
 /// The operations of a script's words.

@@ -21,8 +21,8 @@ fn read(name: &str) -> String {
     std::fs::read_to_string(&path).unwrap_or_else(|error| panic!("{path}: {error}"))
 }
 
-const SCRIPTS: [&str; 7] = [
-    "access", "array", "fetch", "large", "refused", "store", "top",
+const SCRIPTS: [&str; 8] = [
+    "access", "array", "fetch", "large", "long", "refused", "store", "top",
 ];
 
 #[test]
@@ -136,7 +136,7 @@ fn nothing_is_said_in_assembler() {
     texts.push(output(&[
         "--encode", "4", "0", "0", "0", "3", "8", "0", "11", "0", "0", "2",
     ]));
-    for name in ["store", "load", "stack-check", "transpose"] {
+    for name in ["store", "load", "long-buffers", "stack-check", "transpose"] {
         let script = format!("../../examples/scripts/{name}.txt");
         let file = format!("{}/{script}", env!("CARGO_MANIFEST_DIR"));
         texts.extend([output(&["--json", &file]), output(&[&file]), read(&script)]);

@@ -11,8 +11,8 @@ use std::collections::BTreeSet;
 use std::fs;
 use std::path::{Path, PathBuf};
 
-const SCRIPTS: [&str; 7] = [
-    "access", "array", "fetch", "large", "refused", "store", "top",
+const SCRIPTS: [&str; 8] = [
+    "access", "array", "fetch", "large", "long", "refused", "store", "top",
 ];
 
 const TOP: [&str; 8] = [
@@ -25,7 +25,7 @@ const TOP: [&str; 8] = [
     "end",
     "summary",
 ];
-const SETTINGS: [&str; 7] = [
+const SETTINGS: [&str; 8] = [
     "vector_bytes",
     "level",
     "streaming",
@@ -33,6 +33,7 @@ const SETTINGS: [&str; 7] = [
     "memory_address",
     "memory_bytes",
     "stack_check",
+    "largest_vector_bytes",
 ];
 const WORD: [&str; 11] = [
     "number",
@@ -183,6 +184,21 @@ fn the_stack_check_is_in_the_document() {
         let document = document(output.stdout);
         let found = document.get("settings").get("stack_check");
         assert_eq!(*found, Value::Bool(on));
+    }
+}
+
+#[test]
+fn the_largest_vector_length_is_in_the_document() {
+    for (line, bytes) in [
+        ("", 16),
+        ("largest-vector-bytes 16", 16),
+        ("largest-vector-bytes 128", 128),
+    ] {
+        let script = format!("{line}\nvector-bytes 16\nword 00000000\n");
+        let output = piped(&["-", "--json"], script.as_bytes());
+        let document = document(output.stdout);
+        let found = document.get("settings").get("largest_vector_bytes");
+        assert_eq!(found.number(), bytes);
     }
 }
 

@@ -1,7 +1,7 @@
-//! An independent second program for document 01 with requests 1, 2, 4 and
-//! 9: decodes, encodes and executes the words of nine SME instructions, takes
-//! and gives up tiles, and prints the inputs on which it is compared with
-//! the first.
+//! An independent second program for document 01 with requests 1, 2, 4, 9
+//! and 12: decodes, encodes and executes the words of nine SME instructions,
+//! takes and gives up tiles, and prints the inputs on which it is compared
+//! with the first.
 
 #![forbid(unsafe_code)]
 

@@ -1,5 +1,5 @@
-//! The refusal numbers of document 01, section 6, and those that request 9
-//! added.
+//! The refusal numbers of document 01, section 6, as requests 2, 4 and 12
+//! amend them, and those that request 9 added.
 
 /// Why a word was not decoded or not executed, eleven numbers were not
 /// encoded, or a tile was not taken or not given up.
@@ -11,8 +11,11 @@ pub enum Refusal {
     Level,
     /// 1 as well: the vector length is not one of the five.
     VectorLength,
-    /// 2: a buffer has a length that the vector length does not fix, or
-    /// memory goes beyond 2^64.
+    /// 1 as well: the largest vector length is not one of the five, or is
+    /// below the vector length.
+    LargestVectorLength,
+    /// 2: a buffer has a length that the largest vector length does not fix,
+    /// or memory goes beyond 2^64.
     Length,
     /// 3: the word does not decode at this level.
     Undecodable,
@@ -42,7 +45,7 @@ impl Refusal {
     /// The number that section 6 or request 9 gives to this refusal.
     pub fn number(self) -> u8 {
         match self {
-            Refusal::Level | Refusal::VectorLength => 1,
+            Refusal::Level | Refusal::VectorLength | Refusal::LargestVectorLength => 1,
             Refusal::Length => 2,
             Refusal::Undecodable => 3,
             Refusal::StreamingOff => 4,

@@ -7,9 +7,10 @@ use std::fmt;
 #[derive(Clone, Copy, Debug, PartialEq, Eq, Hash)]
 #[non_exhaustive]
 pub enum Refusal {
-    /// 1: the vector length is not 16, 32, 64, 128 or 256 bytes, or the level is above 3.
+    /// 1: the vector length or the largest vector length is not 16, 32, 64, 128 or 256 bytes, the largest is below the
+    /// other, or the level is above 3.
     BadSettings,
-    /// 2: a buffer has not the length that the vector length fixes, or memory ends above 2^64.
+    /// 2: a buffer has not the length that the largest vector length fixes, or memory ends above 2^64.
     BadLengths,
     /// 3: the word is no instruction of the level.
     Undecodable,
@@ -96,7 +97,7 @@ impl Refusal {
 impl fmt::Display for Refusal {
     fn fmt(&self, f: &mut fmt::Formatter<'_>) -> fmt::Result {
         match self {
-            Refusal::BadSettings => write!(f, "the vector length or the level is not allowed"),
+            Refusal::BadSettings => write!(f, "a vector length or the level is not allowed"),
             Refusal::BadLengths => write!(
                 f,
                 "a buffer has the wrong length, or memory ends above 2^64"

@@ -8,11 +8,11 @@ use crate::settings::Settings;
 pub struct Buffers<'a> {
     /// The 31 general-purpose registers and, as number 31, the stack pointer.
     pub x: &'a [u64],
-    /// The 32 vector registers, one after another.
+    /// The 32 vector registers, each where the largest vector length has it start.
     pub z: &'a mut [u8],
-    /// The 16 predicate registers, one after another, a bit for each byte of a vector.
+    /// The 16 predicate registers, an eighth of that apart, with a bit for each byte of a vector.
     pub p: &'a [u8],
-    /// The array, vector 0 first.
+    /// The array, vector 0 first, as many vectors as the largest vector length has bytes.
     pub za: &'a mut [u8],
     /// Memory from the settings' memory address on, of any length. Only a store writes it.
     pub memory: &'a mut [u8],

@@ -60,14 +60,23 @@
 //! # Where a tile's slices lie in the array
 //!
 //! Horizontal slice s of tile t is vector s * m + t of the array, whole: the vectors of a tile are m apart. Element e
-//! of vertical slice s of tile t is bytes s * m to s * m + m - 1 of vector e * m + t. [`State::horizontal_slice`] and
-//! [`State::vertical_slice`] read them.
+//! of vertical slice s of tile t is bytes s * m to s * m + m - 1 of vector e * m + t. [`Machine::horizontal_slice`] and
+//! [`Machine::vertical_slice`] read them.
+//!
+//! # Short vectors in long buffers
+//!
+//! A host may keep its buffers for a largest vector length L and run at a shorter one: [`Settings::within`]. Vectors
+//! then start L bytes apart in Z and in the array, which has L of them; predicate registers start L / 8 bytes apart.
+//! All that is said above goes by B. Of each vector the first B bytes count, of a predicate register the first B / 8,
+//! of the array vectors 0 to B - 1; the other bytes never change and never matter. [`Machine::vector`] and its
+//! neighbours give what counts, those of [`State`] all that is in the buffers.
 
 mod answer;
 mod execute;
 mod fields;
 mod held;
 mod kind;
+mod layout;
 mod machine;
 pub mod numbers;
 mod operation;

@@ -1,7 +1,8 @@
 //! A machine with all that it needs.
 
 use crate::answer::Refusal;
-use crate::operation::Operation;
+use crate::layout::Layout;
+use crate::operation::{ElementSize, Operation};
 use crate::settings::Settings;
 use crate::state::State;
 use crate::words::encode;
@@ -127,6 +128,106 @@ impl Machine {
             done += 1;
         }
         Ok(done)
+    }
+
+    /// The bytes of vector register `number` that count: as many as the vector length says, from where the largest one
+    /// has it start.
+    ///
+    /// ```
+    /// use sme_move::{Direction, ElementSize, Machine, Operation, Settings};
+    ///
+    /// // Vectors of 16 bytes in buffers for vectors of 64.
+    /// let settings = Settings::within(16, 64, 3)?.with_streaming(true).with_za(true);
+    /// let mut machine = Machine::new(settings, Vec::new())?;
+    /// machine.predicate_mut(0).fill(0xFF);
+    /// machine.vector_mut(1).copy_from_slice(b"sixteen letters!");
+    /// let (size, direction, tile) = (ElementSize::Bits32, Direction::Horizontal, 2);
+    /// let (offset, index, predicate, vector) = (3, 12, 0, 1);
+    /// machine.execute_operation(Operation::MovaToTile { size, direction, tile, offset, index, predicate, vector })?;
+    /// assert_eq!(machine.horizontal_slice(size, tile.into(), 3), machine.vector(1));
+    /// assert_eq!(machine.vertical_slice(size, tile.into(), 1)[12..], *b"een ");
+    /// // The slice is vector 3 * 4 + 2 of the array, of which the unit leaves all other bytes alone.
+    /// assert_eq!(machine.state.za[14 * 64..][..17], *b"sixteen letters!\0");
+    /// # Ok::<(), sme_move::Refusal>(())
+    /// ```
+    ///
+    /// # Panics
+    /// If the settings' vector lengths are not allowed, the state's buffers have not the lengths that these fix, or
+    /// `number` is not below 32.
+    pub fn vector(&self, number: usize) -> &[u8] {
+        &self.state.z[self.layout().vector(&self.state.z, number)]
+    }
+
+    /// These bytes of vector register `number`, to be written.
+    ///
+    /// # Panics
+    /// As [`Machine::vector`].
+    pub fn vector_mut(&mut self, number: usize) -> &mut [u8] {
+        let place = self.layout().vector(&self.state.z, number);
+        &mut self.state.z[place]
+    }
+
+    /// The bytes of predicate register `number` that count, an eighth of a vector's.
+    ///
+    /// # Panics
+    /// As [`Machine::vector`], but `number` is to be below 16.
+    pub fn predicate(&self, number: usize) -> &[u8] {
+        &self.state.p[self.layout().predicate(&self.state.p, number)]
+    }
+
+    /// These bytes of predicate register `number`, to be written.
+    ///
+    /// # Panics
+    /// As [`Machine::predicate`].
+    pub fn predicate_mut(&mut self, number: usize) -> &mut [u8] {
+        let place = self.layout().predicate(&self.state.p, number);
+        &mut self.state.p[place]
+    }
+
+    /// The bytes of vector `number` of the array that count. So many vectors of it do as a vector has bytes.
+    ///
+    /// # Panics
+    /// As [`Machine::vector`], but `number` is to be below the vector length.
+    pub fn array_vector(&self, number: usize) -> &[u8] {
+        &self.state.za[self.layout().array_vector(&self.state.za, number)]
+    }
+
+    /// These bytes of vector `number` of the array, to be written.
+    ///
+    /// # Panics
+    /// As [`Machine::array_vector`].
+    pub fn array_vector_mut(&mut self, number: usize) -> &mut [u8] {
+        let place = self.layout().array_vector(&self.state.za, number);
+        &mut self.state.za[place]
+    }
+
+    /// Horizontal slice `slice` of a tile. The [crate's page](crate#where-a-tiles-slices-lie-in-the-array) tells which
+    /// vector of the array it is.
+    ///
+    /// # Panics
+    /// As [`Machine::array_vector`], or if there is no tile of this number or no such slice of it.
+    pub fn horizontal_slice(&self, size: ElementSize, tile: usize, slice: usize) -> &[u8] {
+        let za = &self.state.za;
+        &za[self.layout().horizontal_slice(za, size, tile, slice)]
+    }
+
+    /// Vertical slice `slice` of a tile, its elements one after another: a copy, as they lie in as many vectors.
+    ///
+    /// # Panics
+    /// As [`Machine::horizontal_slice`].
+    pub fn vertical_slice(&self, size: ElementSize, tile: usize, slice: usize) -> Vec<u8> {
+        let layout = self.layout();
+        layout.vertical_slice(&self.state.za, size, tile, slice)
+    }
+
+    /// As the settings say, if they are allowed: that is for the unit to say, which gives the lengths by them.
+    fn layout(&self) -> Layout {
+        let lengths = self.settings.lengths();
+        lengths.expect("the vector lengths are allowed");
+        Layout {
+            vector_bytes: self.settings.vector_bytes as usize,
+            largest_vector_bytes: self.settings.largest_vector_bytes as usize,
+        }
     }
 }
 

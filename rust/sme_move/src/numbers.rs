@@ -8,7 +8,7 @@ use crate::settings::Settings;
 const UNWRITTEN: u64 = 0x5A5A_5A5A_5A5A_5A5A;
 
 extern "C" {
-    fn sme_version_0_6() -> u32;
+    fn sme_version_0_7() -> u32;
     fn sme_execute_word(
         settings: *const u64,
         settings_len: usize,
@@ -47,7 +47,7 @@ extern "C" {
 }
 
 /// The version that this package is written for: 65536 times the major number and the minor one.
-pub const VERSION: u32 = 6;
+pub const VERSION: u32 = 7;
 
 /// The version of the archive. It is never less than [`VERSION`]: an older archive has no such function, so that a
 /// program that uses this package does not link with it.
@@ -59,16 +59,16 @@ pub const VERSION: u32 = 6;
 /// ```
 pub fn version() -> u32 {
     // SAFETY: a number only.
-    unsafe { sme_version_0_6() }
+    unsafe { sme_version_0_7() }
 }
 
 /// For the linker, in programs that do not ask for the version too.
 #[used]
-static NEEDED: unsafe extern "C" fn() -> u32 = sme_version_0_6;
+static NEEDED: unsafe extern "C" fn() -> u32 = sme_version_0_7;
 
 /// The settings as the archive's functions take them.
 #[inline]
-fn given(settings: Settings) -> [u64; 6] {
+fn given(settings: Settings) -> [u64; 7] {
     let Settings {
         vector_bytes,
         level,
@@ -76,6 +76,7 @@ fn given(settings: Settings) -> [u64; 6] {
         za,
         memory_address,
         stack_check,
+        largest_vector_bytes,
     } = settings;
     [
         vector_bytes,
@@ -84,6 +85,7 @@ fn given(settings: Settings) -> [u64; 6] {
         za.into(),
         memory_address,
         (!stack_check).into(),
+        largest_vector_bytes,
     ]
 }
 
@@ -145,19 +147,19 @@ pub fn check(settings: Settings) -> u32 {
 }
 
 /// 0 with the lengths of X (in numbers), Z, P and ZA (in bytes) that the settings fix written, or 1 with `lengths` as it was.
-/// Only the vector length is checked.
+/// Only the two vector lengths are checked.
 pub fn measure(settings: Settings, lengths: &mut [u64; 4]) -> u32 {
     let given = given(settings);
     // SAFETY: as above, and `lengths` is a writable place of four numbers that lives through the call.
     unsafe { sme_measure(given.as_ptr(), given.len(), lengths) }
 }
 
-/// [`check`] of new settings of this vector length and level.
+/// [`check`] of new settings of this vector length and level, with buffers for this length.
 pub fn check_settings(vector_bytes: u64, level: u64) -> u32 {
     check(Settings::unchecked(vector_bytes, level))
 }
 
-/// [`measure`] of new settings of this vector length.
+/// [`measure`] of new settings of this vector length, with buffers for it.
 pub fn lengths(vector_bytes: u64, lengths: &mut [u64; 4]) -> u32 {
     measure(Settings::unchecked(vector_bytes, 0), lengths)
 }

@@ -20,9 +20,13 @@ pub struct Settings {
     /// Whether a misaligned stack pointer as the base of a load or store is refused
     /// ([`Refusal::StackMisaligned`]). With the check off it is a base like any other.
     pub stack_check: bool,
+    /// The largest vector length in bytes, for which the buffers are laid out: vectors start this far apart, predicate
+    /// registers an eighth of it. It is not below the vector length.
+    /// The [crate's page](crate#short-vectors-in-long-buffers) tells what becomes of the bytes between.
+    pub largest_vector_bytes: u64,
 }
 
-/// The lengths that a vector length fixes: X in numbers, the others in bytes.
+/// The lengths that buffers have for a largest vector length: X in numbers, the others in bytes.
 #[derive(Clone, Copy, Debug, PartialEq, Eq, Hash)]
 pub struct Lengths {
     pub x: usize,
@@ -38,7 +42,8 @@ impl Settings {
 
     pub const MAX_LEVEL: u64 = 3;
 
-    /// Settings of this vector length and level, with streaming and ZA off, memory at address 0 and the stack check on.
+    /// Settings of this vector length and level, with streaming and ZA off, memory at address 0, the stack check on and
+    /// buffers for this length.
     ///
     /// ```
     /// use sme_move::{Refusal, Settings};
@@ -47,11 +52,34 @@ impl Settings {
     /// assert_eq!(Settings::new(48, 3), Err(Refusal::BadSettings));
     /// ```
     pub fn new(vector_bytes: u64, level: u64) -> Result<Settings, Refusal> {
-        let settings = Settings::unchecked(vector_bytes, level);
+        Settings::within(vector_bytes, vector_bytes, level)
+    }
+
+    /// The same for a machine that runs at this vector length in buffers for a larger one, or for this one.
+    ///
+    /// ```
+    /// use sme_move::{Refusal, Settings};
+    ///
+    /// let settings = Settings::within(16, 64, 3)?;
+    /// assert_eq!((settings.vector_bytes, settings.largest_vector_bytes), (16, 64));
+    /// assert_eq!(Settings::within(64, 64, 3), Settings::new(64, 3));
+    /// // The buffers are too short for these vectors.
+    /// assert_eq!(Settings::within(64, 16, 3), Err(Refusal::BadSettings));
+    /// # Ok::<(), Refusal>(())
+    /// ```
+    pub fn within(
+        vector_bytes: u64,
+        largest_vector_bytes: u64,
+        level: u64,
+    ) -> Result<Settings, Refusal> {
+        let settings = Settings {
+            largest_vector_bytes,
+            ..Settings::unchecked(vector_bytes, level)
+        };
         settings.check().map(|()| settings)
     }
 
-    /// The same without a check: any numbers can be in the fields, and execution checks them again.
+    /// New settings without a check: any numbers can be in the fields, and execution checks them again.
     pub(crate) const fn unchecked(vector_bytes: u64, level: u64) -> Settings {
         Settings {
             vector_bytes,
@@ -60,21 +88,22 @@ impl Settings {
             za: false,
             memory_address: 0,
             stack_check: true,
+            largest_vector_bytes: vector_bytes,
         }
     }
 
-    /// The settings that a refused [`Settings::new`] leaves a machine with (document 01): the shortest vectors and
-    /// level 0.
+    /// The settings that a refused [`Settings::new`] leaves a machine with (document 01): the shortest vectors, buffers
+    /// for these and level 0.
     ///
     /// ```
     /// use sme_move::Settings;
     ///
-    /// let settings = Settings::new(48, 3).unwrap_or(Settings::REFUSED);
-    /// assert_eq!((settings.vector_bytes, settings.level), (16, 0));
+    /// let settings = Settings::within(48, 64, 3).unwrap_or(Settings::REFUSED);
+    /// assert_eq!((settings.vector_bytes, settings.largest_vector_bytes, settings.level), (16, 16, 0));
     /// ```
     pub const REFUSED: Settings = Settings::unchecked(Settings::MIN_VECTOR_BYTES, 0);
 
-    /// Whether the vector length and the level are allowed.
+    /// Whether the vector lengths and the level are allowed.
     pub fn check(self) -> Result<(), Refusal> {
         Refusal::check(numbers::check(self), 0)
     }
@@ -103,13 +132,14 @@ impl Settings {
         self
     }
 
-    /// The lengths that buffers must have. Only the vector length counts, and is checked.
+    /// The lengths that buffers must have. They go by the largest vector length; only the two lengths are checked.
     ///
     /// ```
     /// use sme_move::Settings;
     ///
     /// let lengths = Settings::new(32, 1)?.lengths()?;
     /// assert_eq!((lengths.x, lengths.z, lengths.p, lengths.za), (32, 1024, 64, 1024));
+    /// assert_eq!(Settings::within(16, 32, 1)?.lengths()?, lengths);
     /// # Ok::<(), sme_move::Refusal>(())
     /// ```
     pub fn lengths(self) -> Result<Lengths, Refusal> {

@@ -2,15 +2,16 @@
 
 use crate::answer::Refusal;
 use crate::execute::{execute, Buffers};
+use crate::layout::{Layout, PREDICATES, VECTORS};
 use crate::operation::ElementSize;
 use crate::settings::Settings;
-use std::ops::Range;
-
-const VECTORS: usize = 32;
-const PREDICATES: usize = 16;
 
 /// A machine's registers and array, of the lengths that its settings fix, for hosts that keep no buffers of
 /// their own. Memory stays the host's; a [`Machine`](crate::Machine) has it too.
+///
+/// Vectors and predicate registers are here as long as the buffers are laid out for: where the vector length is shorter
+/// than the largest one, the bytes beyond it are among them. A [`Machine`](crate::Machine) knows the settings, and its
+/// functions of the same names give only the bytes that count.
 ///
 /// ```
 /// use sme_move::{Settings, State};
@@ -105,7 +106,7 @@ impl State {
     /// # Panics
     /// If there are no 32 registers of equal length, or `number` is not below 32.
     pub fn vector(&self, number: usize) -> &[u8] {
-        &self.z[place(self.z.len(), VECTORS, number)]
+        &self.z[self.layout().vector(&self.z, number)]
     }
 
     /// Vector register `number`, to be written.
@@ -113,7 +114,7 @@ impl State {
     /// # Panics
     /// If there are no 32 registers of equal length, or `number` is not below 32.
     pub fn vector_mut(&mut self, number: usize) -> &mut [u8] {
-        let place = place(self.z.len(), VECTORS, number);
+        let place = self.layout().vector(&self.z, number);
         &mut self.z[place]
     }
 
@@ -132,7 +133,7 @@ impl State {
     /// # Panics
     /// If there are no 16 registers of equal length, or `number` is not below 16.
     pub fn predicate(&self, number: usize) -> &[u8] {
-        &self.p[place(self.p.len(), PREDICATES, number)]
+        &self.p[self.layout_of_predicates().predicate(&self.p, number)]
     }
 
     /// Predicate register `number`, to be written.
@@ -140,7 +141,7 @@ impl State {
     /// # Panics
     /// If there are no 16 registers of equal length, or `number` is not below 16.
     pub fn predicate_mut(&mut self, number: usize) -> &mut [u8] {
-        let place = place(self.p.len(), PREDICATES, number);
+        let place = self.layout_of_predicates().predicate(&self.p, number);
         &mut self.p[place]
     }
 
@@ -157,9 +158,10 @@ impl State {
     /// ```
     ///
     /// # Panics
-    /// If the array is not B vectors of B bytes, a vector register having B bytes, or `number` is not below B.
+    /// If the array is not as many vectors as a vector register has bytes, of as many bytes each, or `number` is not
+    /// below that.
     pub fn array_vector(&self, number: usize) -> &[u8] {
-        &self.za[self.array_place(number)]
+        &self.za[self.layout().array_vector(&self.za, number)]
     }
 
     /// Vector `number` of the array, to be written.
@@ -167,7 +169,7 @@ impl State {
     /// # Panics
     /// As [`State::array_vector`].
     pub fn array_vector_mut(&mut self, number: usize) -> &mut [u8] {
-        let place = self.array_place(number);
+        let place = self.layout().array_vector(&self.za, number);
         &mut self.za[place]
     }
 
@@ -186,9 +188,8 @@ impl State {
     /// # Panics
     /// As [`State::array_vector`], or if there is no tile of this number or no such slice of it.
     pub fn horizontal_slice(&self, size: ElementSize, tile: usize, slice: usize) -> &[u8] {
-        let m = usize::from(size.bytes());
-        self.check_slice(m, tile, slice);
-        self.array_vector(slice * m + tile)
+        let layout = self.layout();
+        &self.za[layout.horizontal_slice(&self.za, size, tile, slice)]
     }
 
     /// Vertical slice `slice` of a tile, its elements one after another. They lie in as many vectors of the array, so
@@ -209,40 +210,16 @@ impl State {
     /// # Panics
     /// As [`State::horizontal_slice`].
     pub fn vertical_slice(&self, size: ElementSize, tile: usize, slice: usize) -> Vec<u8> {
-        let m = usize::from(size.bytes());
-        self.check_slice(m, tile, slice);
-        let rows = (0..self.vector_bytes() / m).map(|row| self.array_vector(row * m + tile));
-        rows.flat_map(|row| &row[slice * m..][..m])
-            .copied()
-            .collect()
+        self.layout().vertical_slice(&self.za, size, tile, slice)
     }
 
-    /// Panics unless there is such a slice of such a tile.
-    fn check_slice(&self, m: usize, tile: usize, slice: usize) {
-        assert!(tile < m, "there is no tile {tile} of {m}-byte elements");
-        let slices = self.vector_bytes() / m;
-        assert!(
-            slice < slices,
-            "there is no slice {slice} of the {slices} of a tile of {m}-byte elements"
-        );
+    /// As the vector registers fill their buffer.
+    fn layout(&self) -> Layout {
+        Layout::close(self.z.len() / VECTORS)
     }
 
-    /// The place of a vector of the array, which has as many of them as a vector register has bytes.
-    fn array_place(&self, number: usize) -> Range<usize> {
-        let (bytes, count) = (self.za.len(), self.vector_bytes());
-        assert_eq!(count * count, bytes, "no {count} vectors of {count} bytes");
-        place(bytes, count, number)
+    /// As the predicate registers fill theirs.
+    fn layout_of_predicates(&self) -> Layout {
+        Layout::close(self.p.len() / PREDICATES * 8)
     }
-
-    fn vector_bytes(&self) -> usize {
-        self.z.len() / VECTORS
-    }
-}
-
-/// The place of one of so many parts of equal length.
-fn place(bytes: usize, count: usize, number: usize) -> Range<usize> {
-    assert!(number < count, "there is no number {number} of {count}");
-    let length = bytes / count;
-    assert_eq!(length * count, bytes, "no {count} of equal length");
-    number * length..(number + 1) * length
 }

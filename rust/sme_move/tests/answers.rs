@@ -8,7 +8,7 @@ const WITHOUT_ADDRESS: [(Refusal, u32, &str); 9] = [
     (
         Refusal::BadSettings,
         1,
-        "the vector length or the level is not allowed",
+        "a vector length or the level is not allowed",
     ),
     (
         Refusal::BadLengths,
@@ -107,10 +107,15 @@ fn executing_gives_number_and_address() {
     let off = settings().with_streaming(false).with_za(false);
     let high = settings().with_memory_address(u64::MAX - 62);
     let other = Settings::new(32, 3).expect("these are allowed");
+    let wider = Settings::within(16, 32, 3).expect("these are allowed");
+    let mut shorter = settings();
+    shorter.largest_vector_bytes = 8;
     for (settings, word, start, number, address) in [
         (bad, MOVE, 0, 1, 0),
+        (shorter, MOVE, 0, 1, 0),
         (high, MOVE, 0, 2, 0),
         (other, MOVE, 0, 2, 0),
+        (wider, MOVE, 0, 2, 0),
         (settings(), 0xC000_0010, 0, 3, 0),
         (off, MOVE, 0, 4, 0),
         (off.with_streaming(true), MOVE, 0, 5, 0),
@@ -143,6 +148,7 @@ fn other_calls_give_numbers_without_an_address() {
     };
     for (refused, number) in [
         (Settings::new(48, 3).err(), 1),
+        (Settings::within(32, 16, 3).err(), 1),
         (decode(MOVE, 4).err(), 1),
         (decode(MOVE, 0).err(), 3),
         (encode(wide).err(), 8),

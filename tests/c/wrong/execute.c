@@ -1,6 +1,7 @@
 /*
  * Deliberately wrong units: linked between the tests and the archive (the linker's --wrap), this hands each call of
- * sme_execute_word on with one mistake about sizes, which the environment variable WRONG names. The tests must notice each.
+ * sme_execute_word on with one mistake about sizes or about buffers that are laid out for longer vectors, which the
+ * environment variable WRONG names. The tests must notice each.
  */
 #include "sme_move.h"
 
@@ -34,7 +35,20 @@ enum what {
     /* whether memory ends above 2^64 is worked out with the low bits of its length */
     MEMORY_END,
     /* memory of more than 4,096 bytes is refused with 2 */
-    LONG_MEMORY
+    LONG_MEMORY,
+    /* the largest vector length is taken as missing, as missing where it is 0, or by its low bits alone */
+    LARGEST_MISSING,
+    LARGEST_MISSING_IF_0,
+    LARGEST_LOW,
+    /* one that is below the vector length passes for it */
+    LARGEST_BELOW,
+    /* predicates start an eighth of the vector length apart; one with a bit beyond that eighth has element 0 active */
+    PREDICATES_CLOSE,
+    PREDICATES_LONG,
+    /* a done word clears vector registers or vectors of ZA beyond the vector length, or the vectors of ZA from it on */
+    CLEARS_BEYOND_Z,
+    CLEARS_BEYOND_ZA,
+    CLEARS_ZA_FROM
 };
 
 typedef struct mistake {
@@ -67,6 +81,16 @@ static const mistake mistakes[] = {
     {"StoreTwiceIn32Bits", STORE_TWICE, IN_32_BITS},
     {"MemoryEndIn32Bits", MEMORY_END, IN_32_BITS},
     {"LongMemoryRefused", LONG_MEMORY, 0},
+    {"LargestMissing", LARGEST_MISSING, 0},
+    {"LargestMissingIfZero", LARGEST_MISSING_IF_0, 0},
+    {"LargestIn16Bits", LARGEST_LOW, IN_16_BITS},
+    {"LargestIn32Bits", LARGEST_LOW, IN_32_BITS},
+    {"LargestBelowPasses", LARGEST_BELOW, 0},
+    {"PredicatesClose", PREDICATES_CLOSE, 0},
+    {"PredicatesLong", PREDICATES_LONG, 0},
+    {"ClearsBeyondZ", CLEARS_BEYOND_Z, 0},
+    {"ClearsBeyondZa", CLEARS_BEYOND_ZA, 0},
+    {"ClearsZaFromB", CLEARS_ZA_FROM, 0},
 };
 
 /* What a call hands over; the tests with mistakes give every setting, as the wrappers do. */
@@ -146,12 +170,67 @@ static void end_low(const sme_settings *settings, sme_buffers *lent, uint64_t bi
     }
 }
 
+/* The largest vector length is one that is not given. */
+static void drop_largest(call *own)
+{
+    if (own->settings_count == SME_SETTING_COUNT) {
+        own->settings_count = SME_SETTING_LARGEST_VECTOR_BYTES;
+    }
+}
+
+static bool any(const uint8_t *bytes, size_t count)
+{
+    size_t i = 0;
+    while (i < count && bytes[i] == 0) {
+        i++;
+    }
+    return i < count;
+}
+
+/* Predicates in a copy of P, each read with this mistake. */
+static void spoil_predicates(enum what what, call *own)
+{
+    static uint8_t copy[SME_P_BYTES(SME_MAX_VECTOR_BYTES)];
+    const size_t used = own->settings.vector_bytes / 8, apart = own->settings.largest_vector_bytes / 8;
+    if (own->lent.p_bytes != 16 * apart || own->lent.p_bytes > sizeof copy || used > apart) {
+        return;
+    }
+    memcpy(copy, own->lent.p, own->lent.p_bytes);
+    for (size_t i = 0; i < 16; i++) {
+        uint8_t *predicate = copy + i * apart;
+        if (what == PREDICATES_CLOSE) {
+            memcpy(predicate, own->lent.p + i * used, used);
+        } else if (any(predicate + used, apart - used)) {
+            predicate[0] |= 1;
+        }
+    }
+    own->lent.p = copy;
+}
+
+/* What a done word has to leave, cleared. */
+static void clear_beyond(enum what what, const call *own)
+{
+    const size_t b = own->settings.vector_bytes, apart = own->settings.largest_vector_bytes;
+    if (what == CLEARS_ZA_FROM) {
+        memset(own->lent.za + b * apart, 0, (apart - b) * apart);
+    }
+    for (size_t i = 0; i < 32 && what == CLEARS_BEYOND_Z; i++) {
+        memset(own->lent.z + i * apart + b, 0, apart - b);
+    }
+    for (size_t i = 0; i < b && what == CLEARS_BEYOND_ZA; i++) {
+        memset(own->lent.za + i * apart + b, 0, apart - b);
+    }
+}
+
 static void spoil(const mistake *wrong, call *own)
 {
-    uint64_t b = own->settings.vector_bytes, bits = wrong->bits;
+    uint64_t b = own->settings.vector_bytes, apart = own->settings.largest_vector_bytes, bits = wrong->bits;
     sme_buffers *lent = &own->lent;
     switch (wrong->what) {
     case NONE:
+    case CLEARS_BEYOND_Z:
+    case CLEARS_BEYOND_ZA:
+    case CLEARS_ZA_FROM:
         break;
     case X:
         compare_low(&lent->x_count, SME_X_COUNT, bits);
@@ -160,13 +239,13 @@ static void spoil(const mistake *wrong, call *own)
         compare_bytes_of_x(&lent->x_count, bits);
         break;
     case Z:
-        compare_low(&lent->z_bytes, SME_Z_BYTES(b), bits);
+        compare_low(&lent->z_bytes, SME_Z_BYTES(apart), bits);
         break;
     case P:
-        compare_low(&lent->p_bytes, SME_P_BYTES(b), bits);
+        compare_low(&lent->p_bytes, SME_P_BYTES(apart), bits);
         break;
     case ZA:
-        compare_low(&lent->za_bytes, SME_ZA_BYTES(b), bits);
+        compare_low(&lent->za_bytes, SME_ZA_BYTES(apart), bits);
         break;
     case MEMORY_LENGTH:
         lent->memory_bytes &= bits;
@@ -191,6 +270,24 @@ static void spoil(const mistake *wrong, call *own)
     case LONG_MEMORY:
         /* no vector length has an empty X */
         lent->x_count = lent->memory_bytes > LONGEST_ALLOWED ? 0 : lent->x_count;
+        break;
+    case LARGEST_MISSING:
+        drop_largest(own);
+        break;
+    case LARGEST_MISSING_IF_0:
+        if (apart == 0) {
+            drop_largest(own);
+        }
+        break;
+    case LARGEST_LOW:
+        own->settings.largest_vector_bytes &= bits;
+        break;
+    case LARGEST_BELOW:
+        own->settings.largest_vector_bytes = apart < b ? b : apart;
+        break;
+    case PREDICATES_CLOSE:
+    case PREDICATES_LONG:
+        spoil_predicates(wrong->what, own);
         break;
     }
 }
@@ -225,8 +322,9 @@ uint32_t __wrap_sme_execute_word(const uint64_t *settings, size_t settings_count
     for (size_t i = 0; i < settings_count && i < SME_SETTING_COUNT; i++) {
         all[i] = settings[i];
     }
+    const uint64_t largest = settings_count < SME_SETTING_COUNT ? all[0] : all[6];
     const mistake *wrong = chosen();
-    const call right = {{all[0], all[1], all[2] != 0, all[3] != 0, all[4], all[5] != 0},
+    const call right = {{all[0], all[1], all[2] != 0, all[3] != 0, all[4], all[5] != 0, largest},
                         settings_count,
                         word,
                         {x, x_count, z, z_bytes, p, p_bytes, za, za_bytes, memory, memory_bytes},
@@ -235,5 +333,8 @@ uint32_t __wrap_sme_execute_word(const uint64_t *settings, size_t settings_count
     call own = right;
     spoil(wrong, &own);
     uint32_t answer = hand_on(own);
+    if (answer == SME_DONE) {
+        clear_beyond(wrong->what, &own);
+    }
     return wrong->what == STORE_TWICE && is_store(word) ? hand_on(right) : answer;
 }

@@ -38,15 +38,16 @@ pub fn generate(random: &mut Random, case: &mut Case, drawn: Drawn) {
     spoil(random, case, row.level, &causes);
 }
 
-/// Buffers of the right lengths with random bytes. Memory is placed first,
-/// as addresses are aimed at it.
+/// Buffers of the right lengths with random bytes, also beyond the vector
+/// length. Memory is placed first, as addresses are aimed at it.
 fn fill(random: &mut Random, case: &mut Case, operation: &Flat) {
     let vector_bytes = case.settings.vector_bytes as usize;
+    let largest = case.settings.largest_vector_bytes as usize;
     case.x.clear();
     case.x.extend((0..32).map(|_| registers::value(random)));
-    fill_bytes(random, &mut case.z, 32 * vector_bytes);
-    fill_bytes(random, &mut case.p, 16 * (vector_bytes / 8));
-    fill_bytes(random, &mut case.za, vector_bytes * vector_bytes);
+    fill_bytes(random, &mut case.z, 32 * largest);
+    fill_bytes(random, &mut case.p, 16 * (largest / 8));
+    fill_bytes(random, &mut case.za, largest * largest);
     let length = memory::length(random, vector_bytes, operation);
     fill_bytes(random, &mut case.memory, length);
     case.settings.memory_address = memory::address(random, length);

@@ -1,5 +1,6 @@
 //! The governing predicate of a case.
 
+use crate::beyond::Beyond;
 use crate::case::Case;
 use second::flat::Flat;
 use second::inputs::random::Random;
@@ -31,12 +32,26 @@ pub fn set(random: &mut Random, case: &mut Case, operation: &Flat) {
         12 | 13 => run(random, register, m),
         _ => random.fill(register),
     }
+    set_beyond(random, case);
+}
+
+/// Beyond the vector length all registers keep their random bits or, often,
+/// have all of them set or none: no element goes by these.
+fn set_beyond(random: &mut Random, case: &mut Case) {
+    if let Some(beyond) = Beyond::of(&case.settings) {
+        match random.below(4) {
+            0 => beyond.fill_p(&mut case.p, 0xFF),
+            1 => beyond.fill_p(&mut case.p, 0),
+            _ => (),
+        }
+    }
 }
 
 /// The bytes of the operation's predicate register.
 pub fn register<'a>(case: &'a mut Case, operation: &Flat) -> &'a mut [u8] {
     let length = case.settings.vector_bytes as usize / 8;
-    let first = usize::from(operation.predicate) * length;
+    let apart = case.settings.largest_vector_bytes as usize / 8;
+    let first = usize::from(operation.predicate) * apart;
     &mut case.p[first..first + length]
 }
 

@@ -4,15 +4,15 @@ use super::Situations;
 use crate::view::View;
 use sme_move::Refusal;
 
-/// The buffers whose length the vector length fixes, and that length.
+/// The buffers whose length the largest vector length fixes, and that length.
 const FIXED: [(&str, Length, Length); 4] = [
     ("X", |v| v.case.x.len() as u64, |_| 32),
-    ("Z", |v| v.case.z.len() as u64, |v| 32 * v.vector_bytes()),
-    ("P", |v| v.case.p.len() as u64, |v| 2 * v.vector_bytes()),
+    ("Z", |v| v.case.z.len() as u64, |v| 32 * v.largest()),
+    ("P", |v| v.case.p.len() as u64, |v| 2 * v.largest()),
     (
         "ZA",
         |v| v.case.za.len() as u64,
-        |v| v.vector_bytes() * v.vector_bytes(),
+        |v| v.largest() * v.largest(),
     ),
 ];
 

@@ -2,6 +2,7 @@
 
 mod accesses;
 mod buffers;
+mod long_buffers;
 mod memory;
 mod moves;
 mod settings;
@@ -31,6 +32,7 @@ impl Situations {
         moves::name(&mut all, drawn);
         accesses::name(&mut all, drawn);
         buffers::name(&mut all);
+        long_buffers::name(&mut all, drawn);
         memory::name(&mut all, drawn);
         settings::name(&mut all);
         all

@@ -97,9 +97,9 @@ fn name_group(all: &mut Situations, name: &str, kind: Kind, vectors: u8) {
 /// The elements of a move from a tile (document 01, section 3).
 fn elements<'a>(v: &'a View, own: &Flat) -> Vec<Element<'a>> {
     let m = usize::from(own.element_bytes);
-    let length = v.vector_bytes() as usize;
+    let [length, apart] = [v.vector_bytes(), v.largest()].map(|bytes| bytes as usize);
     let element = |e: usize| {
-        let register = usize::from(own.first_vector) * length + e * m;
+        let register = usize::from(own.first_vector) * apart + e * m;
         Element {
             active: v.active.binary_search(&e).is_ok(),
             slice: &v.case.za[v.place(own, e)],
@@ -112,9 +112,9 @@ fn elements<'a>(v: &'a View, own: &Flat) -> Vec<Element<'a>> {
 
 /// The vectors of an array form, before the call and after it.
 fn group<'a>(v: &'a View) -> Vec<(&'a [u8], &'a [u8])> {
-    let length = v.vector_bytes() as usize;
+    let [length, apart] = [v.vector_bytes(), v.largest()].map(|bytes| bytes as usize);
     let vectors = (v.number()..v.vector_bytes()).step_by(v.elements() as usize);
-    let places = vectors.map(|vector| vector as usize * length);
+    let places = vectors.map(|vector| vector as usize * apart);
     places
         .map(|place| {
             (

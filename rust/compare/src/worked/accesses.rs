@@ -353,6 +353,7 @@ impl Example {
         };
         Worked {
             name: format!("{kind}: {}", self.name),
+            z: case.z.clone(),
             za: case.za.clone(),
             memory: case.memory.clone(),
             case,
@@ -392,6 +393,7 @@ fn there_and_back() -> [Worked; 2] {
         name: name.to_string(),
         case: case(32, word),
         answer: Ok(()),
+        z: bytes(32 * 32, 11),
         za: bytes(32 * 32, 97),
         memory: bytes(40, 200),
     };

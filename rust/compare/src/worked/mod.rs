@@ -2,26 +2,31 @@
 //! both programs are held.
 
 mod accesses;
+mod long_buffers;
 mod stack_check;
 
+use crate::beyond::Beyond;
 use crate::case::{Case, Outcome};
 use crate::names::{self, Answer};
 use second::execute::Mistake;
 use sme_move::Refusal;
 
-/// A case and what must come of it. X, Z and P must stay.
+/// A case and what must come of it. X and P must stay.
 pub struct Worked {
     pub name: String,
     pub case: Case,
     /// With the address, where it carries one.
     pub answer: Answer,
+    pub z: Vec<u8>,
     pub za: Vec<u8>,
     pub memory: Vec<u8>,
 }
 
 /// All worked examples.
 pub fn list() -> Vec<Worked> {
-    accesses::list()
+    let mut all = accesses::list();
+    all.extend(long_buffers::list());
+    all
 }
 
 impl Worked {
@@ -52,7 +57,7 @@ impl Worked {
         let case = &self.case;
         let buffers = [
             ("X", outcome.x == case.x),
-            ("Z", outcome.z == case.z),
+            ("Z", outcome.z == self.z),
             ("P", outcome.p == case.p),
             ("ZA", outcome.za == self.za),
             ("memory", outcome.memory == self.memory),
@@ -67,16 +72,26 @@ impl Worked {
 /// Level 3, every switch on, buffers of the right lengths whose bytes are
 /// not zero, no memory, X all zero, and no predicate bit set.
 pub fn case(vector_bytes: usize, word: u32) -> Case {
+    case_within(vector_bytes, vector_bytes, word)
+}
+
+/// The same in buffers for vectors of the largest length, where every
+/// predicate bit beyond the vector length is set.
+pub fn case_within(vector_bytes: usize, largest: usize, word: u32) -> Case {
     let mut case = Case::empty();
     case.settings.vector_bytes = vector_bytes as u64;
+    case.settings.largest_vector_bytes = largest as u64;
     case.settings.level = 3;
     case.settings.streaming = true;
     case.settings.za_on = true;
     case.word = word;
     case.x = vec![0; 32];
-    case.z = bytes(32 * vector_bytes, 11);
-    case.p = vec![0; 16 * vector_bytes / 8];
-    case.za = bytes(vector_bytes * vector_bytes, 97);
+    case.z = bytes(32 * largest, 11);
+    case.p = vec![0; 16 * largest / 8];
+    case.za = bytes(largest * largest, 97);
+    if let Some(beyond) = Beyond::of(&case.settings) {
+        beyond.fill_p(&mut case.p, 0xFF);
+    }
     case
 }
 

@@ -55,15 +55,18 @@ fn fields(random: &mut Random, row: &Row) -> Vec<u32> {
     bits
 }
 
+/// The machine has no bytes beyond the vector length, so buffers are for it.
 fn settings(random: &mut Random, abilities: Abilities) -> Settings {
     let low = abilities.low_memory && random.chance(1, 4);
+    let vector_bytes = random.pick(&VECTOR_LENGTHS);
     Settings {
-        vector_bytes: random.pick(&VECTOR_LENGTHS),
+        vector_bytes,
         level: abilities.level,
         streaming: !random.chance(1, 60),
         za_on: !random.chance(1, 60),
         memory_address: if low { LOW_MEMORY } else { MEMORY },
         stack_check: random.chance(1, 2),
+        largest_vector_bytes: vector_bytes,
     }
 }
 

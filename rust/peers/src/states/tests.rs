@@ -32,6 +32,7 @@ fn case(word: u32, active: u16, start: u64) -> Case {
         za_on: true,
         memory_address: MEMORY,
         stack_check: true,
+        largest_vector_bytes: 16,
     };
     case.x = (0..32).map(|_| random.bits()).collect();
     case.x[1] = start;

@@ -46,7 +46,7 @@ fn row<'a>(
     Row {
         labels,
         taken,
-        before: member(before, place, number, machine.vector_bytes()),
+        before: member(before, place, number, machine.settings),
         after: machine.member(place, number),
     }
 }

@@ -11,13 +11,21 @@ pub struct Draft {
     array: Option<bool>,
     memory_address: Option<u64>,
     stack_check: Option<bool>,
+    largest_vector_bytes: Option<u64>,
 }
 
 impl Draft {
     /// Takes one setting in.
     pub fn state(&mut self, name: &str, value: &str) -> Result<(), String> {
         match name {
-            "vector-bytes" => once(&mut self.vector_bytes, name, vector_bytes(value)?),
+            "vector-bytes" => {
+                once(&mut self.vector_bytes, name, vector_bytes(value)?)?;
+                self.check_lengths()
+            }
+            "largest-vector-bytes" => {
+                once(&mut self.largest_vector_bytes, name, vector_bytes(value)?)?;
+                self.check_lengths()
+            }
             "level" => once(&mut self.level, name, level(value)?),
             "streaming" => once(&mut self.streaming, name, switch(name, value)?),
             "array" => once(&mut self.array, "array on or off", switch(name, value)?),
@@ -30,13 +38,27 @@ impl Draft {
     pub fn settings(&self) -> Result<Settings, String> {
         let missing = "'vector-bytes' is missing: it comes before all contents and words";
         let vector_bytes = self.vector_bytes.ok_or(missing)?;
+        let largest = self.largest_vector_bytes.unwrap_or(vector_bytes);
         let level = self.level.unwrap_or(Settings::MAX_LEVEL);
-        let settings = Settings::new(vector_bytes, level).map_err(|answer| answer.to_string())?;
+        let settings = Settings::within(vector_bytes, largest, level);
+        let settings = settings.map_err(|answer| answer.to_string())?;
         Ok(settings
             .with_streaming(self.streaming.unwrap_or(true))
             .with_za(self.array.unwrap_or(true))
             .with_memory_address(self.memory_address.unwrap_or(0))
             .with_stack_check(self.stack_check.unwrap_or(true)))
+    }
+
+    /// Whether the two lengths go together, which is the unit's to say, from where both are stated on.
+    fn check_lengths(&self) -> Result<(), String> {
+        match (self.vector_bytes, self.largest_vector_bytes) {
+            (Some(bytes), Some(largest)) if Settings::within(bytes, largest, 0).is_err() => {
+                Err(format!(
+                    "'largest-vector-bytes' is {largest}, below the vector length of {bytes} bytes"
+                ))
+            }
+            _ => Ok(()),
+        }
     }
 }
 

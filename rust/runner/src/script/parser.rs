@@ -16,8 +16,18 @@ const MAX_MEMORY: usize = 64 << 20;
 const MAX_WORDS: usize = 1 << 20;
 
 const STATEMENTS: &str = "vector-bytes, level, streaming, array, memory-address, stack-check, \
-                          register, vector, predicate, array-file, memory, memory-file, word, \
-                          words-file, expect";
+                          largest-vector-bytes, register, vector, predicate, array-file, memory, \
+                          memory-file, word, words-file, expect";
+
+/// The settings, but for the switch of the array, whose name contents have too.
+const SETTINGS: [&str; 6] = [
+    "vector-bytes",
+    "level",
+    "streaming",
+    "memory-address",
+    "stack-check",
+    "largest-vector-bytes",
+];
 
 struct Parser<'a> {
     draft: Draft,
@@ -68,8 +78,8 @@ impl Parser<'_> {
             return Ok(());
         };
         match (name, values) {
-            ("vector-bytes" | "level" | "streaming" | "memory-address" | "stack-check", _)
-            | ("array", ["on" | "off", ..]) => self.setting(name, values),
+            ("array", ["on" | "off", ..]) => self.setting(name, values),
+            _ if SETTINGS.contains(&name) => self.setting(name, values),
             ("register", _) => self.register(values),
             ("vector", _) => self.content(Place::Vector, values),
             ("predicate", _) => self.content(Place::Predicate, values),

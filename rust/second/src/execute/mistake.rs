@@ -1,7 +1,8 @@
 //! Deliberate mistakes: those that document 01, section 8 warns of, three
 //! that the words of request 1 invite, six that those of request 2 do, four
-//! that show only in long memory, and three that the switch of request 4
-//! invites.
+//! that show only in long memory, three that the switch of request 4
+//! invites, and eight that the largest vector length of request 12 does.
+//! With that length equal to B, none of the eight shows.
 //!
 //! Only the comparison runs them, to show that it would notice each.
 
@@ -74,11 +75,34 @@ pub enum Mistake {
     /// The switch of the stack check is looked at for stores; a load is
     /// always checked.
     StackSwitchForStoresOnly,
+    /// Vector registers are taken to start B bytes apart.
+    RegistersPacked,
+    /// Predicate registers are taken to start B/8 bytes apart.
+    PredicatesPacked,
+    /// ZA vectors are taken to start B bytes apart.
+    ZaVectorsPacked,
+    /// The lengths of Z, P and ZA are compared with what B would fix. In
+    /// buffers that pass there is room for vectors B bytes apart only, and
+    /// so they are taken to be.
+    LengthsByVectorLength,
+    /// A largest length that is one of the five is accepted below B too, and
+    /// is then taken as B.
+    LargestBelowAccepted,
+    /// MOVAZ from tile and the array forms set the bytes beyond B of their
+    /// registers to zero.
+    BeyondCleared,
+    /// The array forms have a stride of the largest length over r, for r
+    /// registers, and reduce the first vector by it: their groups take in ZA
+    /// vectors from B on.
+    GroupsByLargest,
+    /// The slice number is reduced by the largest length over m: slices that
+    /// the tile does not have are found beyond B.
+    SlicesByLargest,
 }
 
 impl Mistake {
     /// Every mistake, with the name that the command line has for it.
-    pub const NAMED: [(&'static str, Mistake); 23] = [
+    pub const NAMED: [(&'static str, Mistake); 31] = [
         ("TileAsBlock", Mistake::TileAsBlock),
         ("SliceModuloVectorLength", Mistake::SliceModuloVectorLength),
         ("BaseThirtyOneAsZero", Mistake::BaseThirtyOneAsZero),
@@ -108,6 +132,14 @@ impl Mistake {
             "StackSwitchForStoresOnly",
             Mistake::StackSwitchForStoresOnly,
         ),
+        ("RegistersPacked", Mistake::RegistersPacked),
+        ("PredicatesPacked", Mistake::PredicatesPacked),
+        ("ZaVectorsPacked", Mistake::ZaVectorsPacked),
+        ("LengthsByVectorLength", Mistake::LengthsByVectorLength),
+        ("LargestBelowAccepted", Mistake::LargestBelowAccepted),
+        ("BeyondCleared", Mistake::BeyondCleared),
+        ("GroupsByLargest", Mistake::GroupsByLargest),
+        ("SlicesByLargest", Mistake::SlicesByLargest),
     ];
 
     /// The mistake of that name.
@@ -160,6 +192,22 @@ impl Mistake {
             Mistake::StackSwitchInverted => !on,
             Mistake::StackSwitchForStoresOnly => on || kind == flat::LOAD,
             _ => on,
+        }
+    }
+
+    /// Whether the largest length may go with this vector length, both being
+    /// of the five: if it is not below, but for one mistake.
+    pub fn allows_largest(self, largest: u64, vector_bytes: u64) -> bool {
+        self == Mistake::LargestBelowAccepted || largest >= vector_bytes
+    }
+
+    /// The vector length that the buffers are taken to be laid out for: the
+    /// largest, but for two mistakes.
+    pub fn largest_seen(self, largest: usize, vector_bytes: usize) -> usize {
+        match self {
+            Mistake::LengthsByVectorLength => vector_bytes,
+            Mistake::LargestBelowAccepted => largest.max(vector_bytes),
+            _ => largest,
         }
     }
 }

@@ -1,6 +1,6 @@
-//! Execution of one word (document 01, sections 2, 3, 5 and 6, as request 4
-//! amends 2 and 6, with the pages of the instructions that requests 1 and 2
-//! added).
+//! Execution of one word (document 01, sections 2, 3, 5 and 6, as requests 4
+//! and 12 amend 2 and 6, with the pages of the instructions that requests 1
+//! and 2 added).
 //!
 //! Written element by element in the manner of Arm's pseudocode: a slice is
 //! read into a temporary vector and written back from one. Every check
@@ -8,6 +8,7 @@
 
 mod access;
 mod checks;
+mod layout;
 mod load;
 mod memory;
 mod mistake;
@@ -73,7 +74,7 @@ pub fn execute_with(
 /// that applies is given. Loads and stores make the last two themselves, as
 /// they need their registers.
 fn run(mistake: Mistake, settings: &Settings, word: u32, buffers: Buffers) -> Result<(), Refusal> {
-    let level = checks::settings(settings)?;
+    let level = checks::settings(mistake, settings)?;
     checks::lengths(mistake, settings, &buffers)?;
     let operation = decode(mistake.word_seen(word), level)?;
     checks::switches(settings)?;

@@ -37,7 +37,7 @@ pub fn tile_to_vector_zeroing(state: &mut State, operation: &Flat) -> Result<(),
     let slice = state.slice(operation)?;
     let operand = state.za_slice(&slice);
     state.set_za_slice(&slice, &Vector::ZERO);
-    state.set_z(usize::from(operation.first_vector), &operand);
+    state.replace_z(usize::from(operation.first_vector), &operand);
     Ok(())
 }
 
@@ -60,25 +60,36 @@ fn merged(state: &State, operation: &Flat, source: &Vector, kept: Vector) -> Vec
 /// parts as registers.
 pub fn array_to_vectors(state: &mut State, operation: &Flat, zeroing: bool) -> Result<(), Refusal> {
     let registers = usize::from(operation.vectors);
-    let stride = stride(state, registers);
+    let vectors = group_vectors(state);
+    let stride = stride(state, vectors, registers);
     let mut vector = (state.index_sum(operation)? % stride as u64) as usize;
     for register in 0..registers {
         let result = state.za_vector(vector);
         if zeroing {
             state.set_za_vector(vector, &Vector::ZERO);
         }
-        state.set_z(usize::from(operation.first_vector) + register, &result);
+        state.replace_z(usize::from(operation.first_vector) + register, &result);
         // Only a mistaken stride comes to the end of ZA before the last
         // register; it begins again at the front.
-        vector = (vector + stride) % state.vector_bytes;
+        vector = (vector + stride) % vectors;
     }
     Ok(())
 }
 
-/// How far the vectors of a group are apart: B/r with r registers.
-fn stride(state: &State, registers: usize) -> usize {
+/// How many vectors of ZA the groups are made of: B, however many the buffer
+/// has room for.
+fn group_vectors(state: &State) -> usize {
     match state.mistake {
-        Mistake::FourByStrideOfTwo => state.vector_bytes / 2,
-        _ => state.vector_bytes / registers,
+        Mistake::GroupsByLargest => state.layout.largest,
+        _ => state.layout.vector_bytes,
+    }
+}
+
+/// How many vectors further the next one of a group of r registers is: an
+/// r-th of those that the groups are made of.
+fn stride(state: &State, vectors: usize, registers: usize) -> usize {
+    match state.mistake {
+        Mistake::FourByStrideOfTwo => vectors / 2,
+        _ => vectors / registers,
     }
 }

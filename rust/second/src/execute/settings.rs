@@ -1,4 +1,5 @@
-//! The settings of a call (document 01, section 2, as request 4 amends it).
+//! The settings of a call (document 01, section 2, as requests 4 and 12
+//! amend it).
 
 /// The vector lengths that there are, in bytes.
 pub const VECTOR_LENGTHS: [u64; 5] = [16, 32, 64, 128, 256];
@@ -18,4 +19,7 @@ pub struct Settings {
     /// Whether a misaligned stack pointer is refused as the base of a load or
     /// store. With the check off it is a base like any other.
     pub stack_check: bool,
+    /// The vector length in bytes that the buffers are laid out for: how far
+    /// apart vectors start.
+    pub largest_vector_bytes: u64,
 }

@@ -1,6 +1,7 @@
 //! The architectural state that one call works on (document 01, sections 2
 //! and 3), with every length checked already.
 
+use super::layout::Layout;
 use super::memory::Memory;
 use super::vector::{join, split, Vector};
 use super::{Buffers, Mistake, Settings};
@@ -10,7 +11,7 @@ use crate::refusal::Refusal;
 /// Registers, ZA and memory, and the mistake to be made on them.
 pub struct State<'a> {
     pub mistake: Mistake,
-    pub vector_bytes: usize,
+    pub layout: Layout,
     /// The position of the switch of the stack check, as the settings have
     /// it.
     pub stack_check: bool,
@@ -33,7 +34,7 @@ impl<'a> State<'a> {
     pub fn new(mistake: Mistake, settings: &Settings, buffers: Buffers<'a>) -> State<'a> {
         State {
             mistake,
-            vector_bytes: settings.vector_bytes as usize,
+            layout: Layout::new(mistake, settings),
             stack_check: settings.stack_check,
             memory: Memory::new(mistake, settings.memory_address, buffers.memory),
             x: buffers.x,
@@ -50,7 +51,7 @@ impl<'a> State<'a> {
 
     /// n, the elements of a vector and the slices of a tile.
     pub fn elements(&self, element_bytes: usize) -> usize {
-        self.vector_bytes / element_bytes
+        self.layout.vector_bytes / element_bytes
     }
 
     /// W + offset over whole numbers, W being the low 32 bits of the index
@@ -68,7 +69,8 @@ impl<'a> State<'a> {
     pub fn slice(&self, operation: &Flat) -> Result<Slice, Refusal> {
         let element_bytes = usize::from(operation.element_bytes);
         let modulus = match self.mistake {
-            Mistake::SliceModuloVectorLength => self.vector_bytes,
+            Mistake::SliceModuloVectorLength => self.layout.vector_bytes,
+            Mistake::SlicesByLargest => self.layout.largest / element_bytes,
             _ => self.elements(element_bytes),
         };
         let number = self.index_sum(operation)? % modulus as u64;
@@ -87,31 +89,35 @@ impl<'a> State<'a> {
             Mistake::PredicateBitPerElement => e,
             _ => e * element_bytes,
         };
-        let register_bytes = self.vector_bytes / 8;
-        let byte = self.p[usize::from(predicate) * register_bytes + bit / 8];
+        let byte = self.p[self.layout.predicate(usize::from(predicate)) + bit / 8];
         byte >> (bit % 8) & 1 == 1
     }
 
     pub fn z(&self, number: usize) -> Vector {
-        let first = number * self.vector_bytes;
-        Vector::from_bytes(&self.z[first..first + self.vector_bytes])
+        Vector::from_bytes(&self.z[self.layout.register(number)])
     }
 
     pub fn set_z(&mut self, number: usize, vector: &Vector) {
-        let first = number * self.vector_bytes;
-        let bytes = vector.bytes(self.vector_bytes);
-        self.z[first..first + self.vector_bytes].copy_from_slice(bytes);
+        let bytes = vector.bytes(self.layout.vector_bytes);
+        self.z[self.layout.register(number)].copy_from_slice(bytes);
+    }
+
+    /// The register takes the vector whole, whatever it had. That ends at B
+    /// as well: only a mistake goes on.
+    pub fn replace_z(&mut self, number: usize, vector: &Vector) {
+        self.set_z(number, vector);
+        if self.mistake == Mistake::BeyondCleared {
+            self.z[self.layout.beyond_register(number)].fill(0);
+        }
     }
 
     pub fn za_vector(&self, number: usize) -> Vector {
-        let first = number * self.vector_bytes;
-        Vector::from_bytes(&self.za[first..first + self.vector_bytes])
+        Vector::from_bytes(&self.za[self.layout.za_vector(number)])
     }
 
     pub fn set_za_vector(&mut self, number: usize, vector: &Vector) {
-        let first = number * self.vector_bytes;
-        let bytes = vector.bytes(self.vector_bytes);
-        self.za[first..first + self.vector_bytes].copy_from_slice(bytes);
+        let bytes = vector.bytes(self.layout.vector_bytes);
+        self.za[self.layout.za_vector(number)].copy_from_slice(bytes);
     }
 
     /// `ZAslice[]`, read element by element.
@@ -147,7 +153,8 @@ impl<'a> State<'a> {
         } else {
             (slice.number, e)
         };
-        self.row_vector(slice, row) * self.vector_bytes + column * slice.element_bytes
+        let vector = self.layout.za_vector(self.row_vector(slice, row));
+        vector.start + column * slice.element_bytes
     }
 
     /// The ZA vector that is row `row` of the tile: the rows of a tile are m

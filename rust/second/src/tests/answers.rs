@@ -53,16 +53,20 @@ fn good_machines_are_done() {
     }
 }
 
-/// Answer 1: any other vector length, any level above 3. Numbers whose low
-/// byte or low half would be good are among them.
+/// Answer 1: any other vector length, whichever largest length goes with it,
+/// any level above 3. Numbers whose low byte or low half would be good are
+/// among them. The largest length itself is in `long_answers`.
 #[test]
 fn bad_settings() {
     let mut machine = good(16);
     for vector_bytes in [0, 1, 15, 17, 24, 48, 255, 257, 512, 1 << 32 | 16, 1 << 63] {
-        machine.settings.vector_bytes = vector_bytes;
-        refused(&machine, 1);
+        for largest in [16, 256, vector_bytes] {
+            machine.settings.vector_bytes = vector_bytes;
+            machine.settings.largest_vector_bytes = largest;
+            refused(&machine, 1);
+        }
     }
-    machine.settings.vector_bytes = 16;
+    machine.settings = good(16).settings;
     for level in [4, 255, 256, 257, 1 << 32 | 3, 1 << 63, u64::MAX] {
         machine.settings.level = level;
         refused(&machine, 1);

@@ -2,7 +2,7 @@
 
 use crate::execute::{execute_with, Buffers, Mistake, Settings};
 
-/// Settings and buffers of the lengths that the vector length fixes.
+/// Settings and buffers of the lengths that they fix.
 #[derive(Clone, Debug, PartialEq)]
 pub struct Machine {
     pub settings: Settings,
@@ -22,8 +22,13 @@ fn bytes(start: usize, length: usize) -> Vec<u8> {
 
 impl Machine {
     /// Level 3, every switch on, memory of 64 bytes at address 0, no active
-    /// element in any predicate.
+    /// element in any predicate, and buffers for no longer vectors.
     pub fn new(vector_bytes: usize) -> Machine {
+        Machine::in_long_buffers(vector_bytes, vector_bytes)
+    }
+
+    /// The same with buffers for vectors of `largest` bytes.
+    pub fn in_long_buffers(vector_bytes: usize, largest: usize) -> Machine {
         Machine {
             settings: Settings {
                 vector_bytes: vector_bytes as u64,
@@ -32,19 +37,25 @@ impl Machine {
                 za_on: true,
                 memory_address: 0,
                 stack_check: true,
+                largest_vector_bytes: largest as u64,
             },
             x: (0..32)
                 .map(|number| 0xABCD_0123_4567_0000 + number)
                 .collect(),
-            z: bytes(3, 32 * vector_bytes),
-            p: vec![0; 2 * vector_bytes],
-            za: bytes(90, vector_bytes * vector_bytes),
+            z: bytes(3, 32 * largest),
+            p: vec![0; 2 * largest],
+            za: bytes(90, largest * largest),
             memory: bytes(200, 64),
         }
     }
 
     pub fn vector_bytes(&self) -> usize {
         self.settings.vector_bytes as usize
+    }
+
+    /// Where a vector starts in Z or ZA.
+    fn start(&self, number: usize) -> usize {
+        number * self.settings.largest_vector_bytes as usize
     }
 
     /// Other memory: `length` bytes from `address` on.
@@ -61,7 +72,7 @@ impl Machine {
 
     /// Sets the bits of one predicate register.
     pub fn set_predicate(&mut self, register: usize, bits: impl IntoIterator<Item = usize>) {
-        let first = register * self.vector_bytes() / 8;
+        let first = self.start(register) / 8;
         for bit in bits {
             self.p[first + bit / 8] |= 1 << (bit % 8);
         }
@@ -74,29 +85,27 @@ impl Machine {
 
     /// The bytes of a vector register.
     pub fn z(&self, register: usize) -> Vec<u8> {
-        let length = self.vector_bytes();
-        self.z[register * length..][..length].to_vec()
+        self.z[self.start(register)..][..self.vector_bytes()].to_vec()
     }
 
     /// The bytes of a ZA vector.
     pub fn za(&self, vector: usize) -> Vec<u8> {
-        let length = self.vector_bytes();
-        self.za[vector * length..][..length].to_vec()
+        self.za[self.start(vector)..][..self.vector_bytes()].to_vec()
     }
 
     pub fn set_z(&mut self, register: usize, bytes: &[u8]) {
-        let length = self.vector_bytes();
-        self.z[register * length..][..length].copy_from_slice(bytes);
+        let (first, length) = (self.start(register), self.vector_bytes());
+        self.z[first..][..length].copy_from_slice(bytes);
     }
 
     pub fn set_za(&mut self, vector: usize, bytes: &[u8]) {
-        let length = self.vector_bytes();
-        self.za[vector * length..][..length].copy_from_slice(bytes);
+        let (first, length) = (self.start(vector), self.vector_bytes());
+        self.za[first..][..length].copy_from_slice(bytes);
     }
 
     /// Sets the bytes of a ZA vector from `first` on.
     pub fn set_za_part(&mut self, vector: usize, first: usize, bytes: &[u8]) {
-        let start = vector * self.vector_bytes() + first;
+        let start = self.start(vector) + first;
         self.za[start..start + bytes.len()].copy_from_slice(bytes);
     }
 

@@ -41,7 +41,7 @@ fn stored(machine: &Machine, first: usize) -> Machine {
 }
 
 /// The mistaken word is done as it should be.
-fn both_right(machine: &Machine, word: u32, mistake: Mistake, wanted: &Machine) {
+pub fn both_right(machine: &Machine, word: u32, mistake: Mistake, wanted: &Machine) {
     machine.clone().expect_done(word, wanted);
     mistaken_leaves(machine, word, mistake, wanted);
 }

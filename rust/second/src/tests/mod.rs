@@ -1,6 +1,7 @@
 //! Unit tests: words and their lists and lines, the worked examples of
 //! document 01 and of the added words, the order of the answers, the switch
-//! of the stack check, tiles taken and given up, and the deliberate mistakes.
+//! of the stack check, buffers for longer vectors, tiles taken and given up,
+//! and the deliberate mistakes.
 
 mod access_mistakes;
 mod accesses;
@@ -13,6 +14,10 @@ mod held_mistakes;
 mod held_sets;
 mod inputs;
 mod lines;
+mod long_answers;
+mod long_buffers;
+mod long_buffers_mistakes;
+mod long_states;
 mod machine;
 mod memory_mistakes;
 mod mistakes;

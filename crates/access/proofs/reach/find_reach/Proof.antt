@@ -4,6 +4,7 @@ use borrow.Author.Needs.{needs}
 use mathlib.Core.Path.{_≡_, sym, _∙_}
 use mathlib.Core.Bool.{Bool, true, false}
 use native.Mathlib.Omega.{arith}
+use Rattle.settings.proofs.SettingsLaws.{vector-valid}
 use Rattle.tiles.specs.declared.element.ElementSize.the-variants.{Bits8}
 use Rattle.tiles.proofs.LengthLaws.{whole-elements}
 use Rattle.moves.proofs.PredicateLaws.{part-bits}
@@ -17,7 +18,7 @@ is-stack-bad-requires : tie.Need-is-stack-bad-requires
 is-stack-bad-requires c κs =
     let a = c .before .before .before .before .args in
     let h = c .before .before .before .before .pre in
-    (part-bits (a .settings) (h .0 .vector) (a .p .now) (h .0 .p) (a .pg) (omega (arith, h .1 .predicate)) (c .before .predicate-start .result) (c .before .predicate-start .ensures), whole-elements Bits8 _ (h .0 .vector) .longest)
+    (part-bits (a .settings) (h .0 .vectors) (a .p .now) (h .0 .p) (a .pg) (omega (arith, h .1 .predicate)) (c .before .predicate-start .result) (c .before .predicate-start .ensures), whole-elements Bits8 _ (vector-valid (a .settings) (h .0 .vectors)) .longest)
 
 -- the answer of the stack check
 stack : (c : tie.After-is-stack-bad) (t : Bool) → c .is-stack-bad .result ≡ t → let a = c .before .before .before .before .before .args in stackBad (a .settings) (a .x .now) (a .p .now) (a .memory-bytes) (sliceAccess (a .slice) (a .pg) (a .rn) (a .rm)) ≡ t
@@ -36,14 +37,15 @@ returns-2 c =
 
 window-of-requires : tie.Need-window-of-requires
 window-of-requires c κs =
-    let w = whole-elements Bits8 _ (c .before .before .before .before .before .before .before .before .before .pre .0 .vector) in
+    let entry = c .before .before .before .before .before .before .before .before .before in
+    let w = whole-elements Bits8 _ (vector-valid (entry .args .settings) (entry .pre .0 .vectors)) in
     (omega (arith, w .slices), w .longest)
 
 first-fault-requires : tie.Need-first-fault-requires
 first-fault-requires c κs =
     let a = c .before .before .before .before .before .before .before .before .before .before .args in
     let h = c .before .before .before .before .before .before .before .before .before .before .pre in
-    (c .window-of .ensures .fits .order, c .window-of .ensures .fits .end, part-bits (a .settings) (h .0 .vector) (a .p .now) (h .0 .p) (a .pg) (omega (arith, h .1 .predicate)) (c .before .before .before .before .before .before .before .predicate-start .result) (c .before .before .before .before .before .before .before .predicate-start .ensures), whole-elements Bits8 _ (h .0 .vector) .longest)
+    (c .window-of .ensures .fits .order, c .window-of .ensures .fits .end, part-bits (a .settings) (h .0 .vectors) (a .p .now) (h .0 .p) (a .pg) (omega (arith, h .1 .predicate)) (c .before .before .before .before .before .before .before .predicate-start .result) (c .before .before .before .before .before .before .before .predicate-start .ensures), whole-elements Bits8 _ (vector-valid (a .settings) (h .0 .vectors)) .longest)
 
 returns-3 : tie.Need-returns-3
 returns-3 c =
@@ -61,7 +63,7 @@ pub find-reach-spec : {M : Type 1} → statement M
 find-reach-spec =
     tie.close
     (tie.spec
-    (λ c κs. c .before .before .pre .0 .vector)
+    (λ c κs. c .before .before .pre .0 .vectors)
     (λ c. search needs)
     (λ c. search needs)
     is-stack-bad-requires

@@ -21,4 +21,11 @@ small c =
 
 pub group-of-spec : {M : Type 1} → statement M
 group-of-spec =
-    tie.close (tie.spec (λ c κs. search needs) selected-requires (λ c. omega (arith, small c, c .selected .ensures .1)) (λ c. omega (arith, small c)) (λ c. omega (arith, small c, c .selected .ensures .1)) (λ c. omega (arith, small c)) (λ c. omega (arith, small c, c .selected .ensures .1)) (λ c. group-list (c .before .before .args .vector-bytes) _ _ (c .before .group-stride .ensures) (c .selected .ensures .0)))
+    tie.close
+    (tie.spec
+    (λ c κs. search needs)
+    selected-requires
+    (λ c. omega (arith, small c, c .selected .ensures .1))
+    (λ c. omega (arith, small c, c .selected .ensures .1))
+    (λ c. omega (arith, small c, c .selected .ensures .1))
+    (λ c. group-list (c .before .before .args .vector-bytes) _ _ (c .before .group-stride .ensures) (c .selected .ensures .0)))

@@ -1,7 +1,7 @@
 -- `execute::array::take_vector` meets its contract: a vector is bytes one after another in both buffers.
 -- Assumes nothing.
 use native.Mathlib.Omega.{arith}
-use Rattle.settings.proofs.SettingsLaws.{vector-length-small}
+use Rattle.settings.proofs.SettingsLaws.{vector-length-small, vector-valid}
 use Rattle.execute.proofs.MoveLaws.{vector-paired, vector-apart, vector-copied, vector-taken}
 use borrow.Author.Needs.{needs}
 use Rattle.execute.proofs.array.take_vector.Statement.{statement}
@@ -10,7 +10,7 @@ use Rattle.execute.proofs.array.take_vector.Tie as tie
 vector-span-requires-2 : tie.Need-vector-span-requires-2
 vector-span-requires-2 c κs =
     let e = c .before .before .before .pre in
-    (e .0 .vector, omega (arith, e .2, vector-length-small _ (e .0 .vector)))
+    (e .0 .vectors, omega (arith, e .2, vector-length-small _ (vector-valid (c .before .before .before .args .settings) (e .0 .vectors))))
 
 take-requires : tie.Need-take-requires
 take-requires c κs =
@@ -40,7 +40,7 @@ pub take-vector-spec : {M : Type 1} → statement M
 take-vector-spec =
     tie.close
     (tie.spec
-    (λ c κs. let e = c .before .before .pre in (e .0 .vector, omega (arith, e .1)))
+    (λ c κs. let e = c .before .before .pre in (e .0 .vectors, omega (arith, e .1)))
     vector-span-requires-2
     take-requires
     copy-requires

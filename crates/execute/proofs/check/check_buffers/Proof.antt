@@ -37,7 +37,7 @@ passes : (c : tie.After-lengths) → let a = c .before .before .before .before .
 passes c h m =
     let a = c .before .before .before .before .args in
     let settings = settings-facts (a .settings) (ok (c .before)) in
-    right-lengths (a .settings) (a .x) (a .z) (a .p) (a .za) (a .memory) (record { vector = settings .0; level = settings .1; x = h .0; z = h .1; p = h .2; za = h .3; memory = m })
+    right-lengths (a .settings) (a .x) (a .z) (a .p) (a .za) (a .memory) (record { vectors = settings .0; level = settings .1; x = h .0; z = h .1; p = h .2; za = h .3; memory = m })
 
 returns-2 : tie.Need-returns-2
 returns-2 c = let at-lengths = c .before .before in refuses at-lengths (λ h. omega (arith, h, measured at-lengths))

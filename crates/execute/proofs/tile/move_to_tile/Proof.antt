@@ -10,16 +10,16 @@ use Rattle.execute.proofs.tile.move_to_tile.Tie as tie
 slice-span-requires : tie.Need-slice-span-requires
 slice-span-requires c κs =
     let e = c .before .before .before .before .before .pre in
-    (e .0 .vector, omega (arith, e .0 .x, e .1 .slice .index), e .1 .slice .offset, e .1 .slice .tile)
+    (e .0 .vectors, omega (arith, e .0 .x, e .1 .slice .index), e .1 .slice .offset, e .1 .slice .tile)
 
 vector-span-requires : tie.Need-vector-span-requires
-vector-span-requires c κs = let e = c .before .before .before .before .before .before .before .pre in (e .0 .vector, omega (arith, e .1 .vector))
+vector-span-requires c κs = let e = c .before .before .before .before .before .before .before .pre in (e .0 .vectors, omega (arith, e .1 .vector))
 
 add-end : tie.Need-add-end
 add-end c =
     let e = c .before .before .before .before .before .before .before .before .before .pre in
     let a = c .before .before .before .before .before .before .before .before .before .args in
-    omega (arith, predicate-within (a .settings) (a .x .now) (a .z .now) (a .p .now) (a .za .now) (e .0) (a .operation .slice) (e .1 .slice) (a .operation .zn) (e .1 .vector) (c .before .before .before .slice-span .ensures) (c .before .vector-span .ensures) (a .operation .pg) (e .1 .predicate) (c .predicate-start .ensures), e .0 .p, stride-fits (a .settings) (e .0 .vector) .longest)
+    omega (arith, predicate-within (a .settings) (a .x .now) (a .z .now) (a .p .now) (a .za .now) (e .0) (a .operation .slice) (e .1 .slice) (a .operation .zn) (e .1 .vector) (c .before .before .before .slice-span .ensures) (c .before .vector-span .ensures) (a .operation .pg) (e .1 .predicate) (c .predicate-start .ensures), e .0 .p, stride-fits (a .settings) (e .0 .vectors) .longest)
 
 part-merge-end : tie.Need-part-merge-end
 part-merge-end c =

@@ -9,10 +9,10 @@ use Rattle.execute.proofs.tile.take_from_tile.Tie as tie
 slice-span-requires : tie.Need-slice-span-requires
 slice-span-requires c κs =
     let e = c .before .before .before .before .before .pre in
-    (e .0 .vector, omega (arith, e .0 .x, e .1 .slice .index), e .1 .slice .offset, e .1 .slice .tile)
+    (e .0 .vectors, omega (arith, e .0 .x, e .1 .slice .index), e .1 .slice .offset, e .1 .slice .tile)
 
 vector-span-requires : tie.Need-vector-span-requires
-vector-span-requires c κs = let e = c .before .before .before .before .before .before .before .pre in (e .0 .vector, omega (arith, e .1 .vector))
+vector-span-requires c κs = let e = c .before .before .before .before .before .before .before .pre in (e .0 .vectors, omega (arith, e .1 .vector))
 
 take-requires : tie.Need-take-requires
 take-requires c κs =

@@ -1,17 +1,16 @@
 -- `settings::lent::settings_in` meets its contract.
 -- Assumes nothing.
 use mathlib.Core.Path.{_∙_}
-use native.Mathlib.Omega.{arith}
 use denote.Ref.{now}
 use borrow.Author.Needs.{needs}
-use Rattle.settings.proofs.LentLaws.{settings-given, settings-few, settings-many}
+use Rattle.settings.proofs.LentLaws.{settings-given, settings-whole, settings-few, settings-many}
 use Rattle.settings.proofs.lent.settings_in.Statement.{statement}
 use Rattle.settings.proofs.lent.settings_in.Tie as tie
 
 returns : tie.Need-returns
 returns c =
-    let all = c .before .before .before .before .before .before .before in
-    c .settings-at .ensures ∙ settings-given (now (all .before .before .args .items)) (omega (arith, all .if1 .taken)) (omega (arith, all .if1 .taken))
+    let all = c .before .before .before .before .before .before .before .before in
+    c .settings-with .ensures ∙ settings-whole (now (all .before .before .args .items)) (all .if1 .taken)
 
 returns-2 : tie.Need-returns-2
 returns-2 c = c .unchecked .ensures ∙ settings-few (now (c .before .before .before .before .args .items)) (c .before .if2 .taken)
@@ -23,14 +22,22 @@ returns-3 c =
 
 returns-4 : tie.Need-returns-4
 returns-4 c =
-    let some = c .before .before .before .before .before .before .before in
-    rw (c .settings-at2 .ensures, c .before .item4 .ensures, c .before .before .item3 .ensures, c .before .before .before .item2 .ensures, c .before .before .before .before .item .ensures)
+    let some = c .before .before .before .before .before .before .before .before .before in
+    rw (
+      c .settings-with2 .ensures,
+      c .before .item5 .ensures,
+      c .before .before .before .item4 .ensures,
+      c .before .before .before .before .item3 .ensures,
+      c .before .before .before .before .before .item2 .ensures,
+      c .before .before .before .before .before .before .item .ensures,
+    )
     (settings-given (now (some .before .before .before .before .args .items)) (some .before .if2 .left) (some .if3 .left))
 
 pub settings-in-spec : {M : Type 1} → statement M
 settings-in-spec =
     tie.close
     (tie.spec
+    (λ c. search needs)
     (λ c. search needs)
     (λ c. search needs)
     (λ c. search needs)
@@ -48,6 +55,8 @@ settings-in-spec =
     (λ c κs. search needs)
     (λ c κs. search needs)
     (λ c κs. search needs)
+    (λ c κs. search needs)
+    (λ c. search needs)
     (λ c κs. search needs)
     (λ c κs. search needs)
     returns-4)

@@ -4,6 +4,7 @@ use borrow.Author.Needs.{needs}
 use mathlib.Core.Path.{_≡_, ap, _∙_}
 use Prim.Native.Nat.{_+_, _*_, _≤_}
 use native.Mathlib.Omega.{arith}
+use Rattle.settings.proofs.SettingsLaws.{vector-valid}
 use Rattle.tiles.specs.Slice.{selected, sliceNumberOf}
 use Rattle.tiles.proofs.LengthLaws.{whole-elements, elements-power}
 use Rattle.tiles.proofs.SpanLaws.{products-small}
@@ -15,7 +16,8 @@ selected-requires c κs =
     let count = c .before .before .elements-in .ensures in
     let entry = c .before .before .before .before .before in
     let size = entry .args .slice .size in
-    (rw count (elements-power size _ (entry .pre .0)), rw count (whole-elements size _ (entry .pre .0) .few), entry .pre .2)
+    let valid = vector-valid (entry .args .settings) (entry .pre .0) in
+    (rw count (elements-power size _ valid), rw count (whole-elements size _ valid .few), entry .pre .2)
 
 -- the number of the slice
 number : (c : tie.After-stride) → let a = c .before .before .before .before .before .before .before .before .args in c .before .before .selected .result ≡ sliceNumberOf (a .settings .«vector_bytes») (a .x .now) (a .slice)

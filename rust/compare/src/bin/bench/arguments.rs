@@ -80,6 +80,8 @@ over all lines, and within a line from contestant to contestant. It takes a litt
   /copy, /strided    the archive's time over that one's
   /room      where memory ends or begins inside the vector: over the archive's time for the same
              call with room to spare, which is the line before
+  /close     in a table apart, of vectors of 64 bytes in buffers for 256: over the archive's time
+             for the same call in buffers for 64
   goal       the most that the last of these ratios is to be, or of nanoseconds for tiles that are
              taken and given up; a goal that is missed is marked
 

@@ -60,6 +60,7 @@ pub fn execute(settings: Settings, word: u32, buffers: Buffers<'_>) -> (u32, u64
         settings.za.into(),
         settings.memory_address,
         (!settings.stack_check).into(),
+        settings.largest_vector_bytes,
     ];
     let answer = function(
         given.as_ptr(),

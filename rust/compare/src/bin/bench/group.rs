@@ -1,5 +1,5 @@
 //! Lines that are timed in turns: one alone, or several of which all but the
-//! first are the first's call without its room to spare.
+//! first are the first's call without its room to spare, or in long buffers.
 
 use crate::contest::Contest;
 use crate::row::{Goal, Record, Row};
@@ -51,6 +51,7 @@ fn row(contest: &Contest) -> Row {
         },
         kind: task.kind.clone(),
         second: least(&contest.second),
+        long: task.largest > task.vector_bytes,
         room: None,
         goal: task.goal.map(Goal::Ratio),
     }

@@ -30,9 +30,10 @@ pub struct Machine {
 }
 
 impl Machine {
-    /// A machine on which every word that decodes is done. Predicate 0, which
-    /// governs, is this one; the others are left empty.
-    pub fn new(vector_bytes: usize, predicate: &[u8]) -> Machine {
+    /// A machine on which every word that decodes is done, with buffers for
+    /// vectors of the largest length. Predicate 0, which governs, is this one;
+    /// the others are left empty.
+    pub fn new(vector_bytes: usize, largest: usize, predicate: &[u8]) -> Machine {
         let mut random = Random::new(1);
         let mut filled = |place, length| {
             let mut bytes = Placed::new(place, length, 0);
@@ -47,11 +48,12 @@ impl Machine {
                 za_on: true,
                 memory_address: ADDRESS - vector_bytes as u64,
                 stack_check: true,
+                largest_vector_bytes: largest as u64,
             },
             x: Placed::new(PLACE_OF_X, 32, INDEX),
-            z: filled(PLACE_OF_Z, 32 * vector_bytes),
-            p: Placed::new(PLACE_OF_P, 2 * vector_bytes, 0),
-            za: filled(PLACE_OF_ZA, vector_bytes * vector_bytes),
+            z: filled(PLACE_OF_Z, 32 * largest),
+            p: Placed::new(PLACE_OF_P, 2 * largest, 0),
+            za: filled(PLACE_OF_ZA, largest * largest),
             memory: filled(PLACE_OF_MEMORY, 3 * vector_bytes),
         };
         machine.x[1] = ADDRESS;
@@ -98,8 +100,16 @@ impl Machine {
 #[cfg(test)]
 mod tests {
     use super::*;
-    use crate::list::VECTOR_LENGTHS;
+    use crate::list::{long, VECTOR_LENGTHS};
     use std::collections::HashSet;
+
+    /// The vector lengths in close buffers, and the one in long ones.
+    fn lengths() -> impl Iterator<Item = (usize, usize)> {
+        let close = VECTOR_LENGTHS.map(|length| (length, length));
+        close
+            .into_iter()
+            .chain([(long::VECTOR_BYTES, long::LARGEST)])
+    }
 
     /// How far into a page some bytes of a buffer are.
     fn places(buffer: &[u8], first: usize, length: usize) -> HashSet<usize> {
@@ -110,14 +120,14 @@ mod tests {
 
     #[test]
     fn rows_read_and_write_at_other_places() {
-        for vector_bytes in VECTOR_LENGTHS {
-            let machine = Machine::new(vector_bytes, &[]);
-            let register = places(&machine.z, vector_bytes, vector_bytes);
+        for (vector_bytes, largest) in lengths() {
+            let machine = Machine::new(vector_bytes, largest, &[]);
+            let register = places(&machine.z, largest, vector_bytes);
             let in_memory = places(&machine.memory, vector_bytes, vector_bytes);
             for element_bytes in [1, 2, 4, 8, 16] {
                 let slice = INDEX as usize % (vector_bytes / element_bytes);
                 let vector = slice * element_bytes + usize::from(element_bytes > 1);
-                let row = places(&machine.za, vector * vector_bytes, vector_bytes);
+                let row = places(&machine.za, vector * largest, vector_bytes);
                 assert!(
                     row.is_disjoint(&register),
                     "{vector_bytes}, {element_bytes}"
@@ -133,7 +143,7 @@ mod tests {
     #[test]
     fn copies_and_groups_read_and_write_at_other_places() {
         for vector_bytes in VECTOR_LENGTHS {
-            let machine = Machine::new(vector_bytes, &[]);
+            let machine = Machine::new(vector_bytes, vector_bytes, &[]);
             for count in [1, 2, 4] {
                 let length = count * vector_bytes;
                 let copied = places(&machine.za, 0, length);
@@ -152,7 +162,7 @@ mod tests {
 
     #[test]
     fn memory_ends_and_begins_in_the_middle() {
-        let [whole, mut ends, mut begins] = [(); 3].map(|()| Machine::new(64, &[]));
+        let [whole, mut ends, mut begins] = [(); 3].map(|()| Machine::new(64, 64, &[]));
         ends.end_memory_inside();
         begins.begin_memory_inside();
         assert_eq!(whole.settings.memory_address, ADDRESS - 64);

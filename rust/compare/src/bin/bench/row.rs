@@ -34,14 +34,17 @@ pub struct Row {
     /// What it is counted under where runs are compared.
     pub kind: String,
     pub second: Option<f64>,
-    /// The archive's time for the same call with room to spare.
+    /// Whether the buffers are for longer vectors.
+    pub long: bool,
+    /// The archive's time for the same call with room to spare or, where the
+    /// buffers are for longer vectors, in buffers for its own.
     pub room: Option<f64>,
     pub goal: Option<Goal>,
 }
 
 impl Row {
     /// The archive's time over that of the copy, of the strided loop, and of
-    /// the same call with room to spare, where there are such.
+    /// the call that it is beside, where there are such.
     pub fn ratios(&self) -> [Option<f64>; 3] {
         let Record {
             archive,
@@ -80,6 +83,7 @@ mod tests {
             },
             kind: "load".to_string(),
             second: None,
+            long: false,
             room,
             goal: Some(goal),
         }

@@ -171,6 +171,7 @@ mod tests {
             record,
             kind: String::new(),
             second: None,
+            long: false,
             room: None,
             goal: None,
         }

@@ -21,7 +21,9 @@ impl Display for Table<'_> {
         )?;
         let of_words = |row: &&Row| row.record.vector_bytes.is_some();
         let (words, tiles): (Vec<_>, Vec<_>) = self.rows.iter().partition(of_words);
+        let (long, words): (Vec<_>, Vec<_>) = words.into_iter().partition(|row| row.long);
         write_words(f, &words)?;
+        write_long(f, &long)?;
         write_tiles(f, &tiles)?;
         let [met, missed] = [true, false].map(|met| self.goals(met));
         writeln!(f, "{met} goals met, {missed} missed")
@@ -71,6 +73,33 @@ fn write_words(f: &mut Formatter, rows: &[&Row]) -> fmt::Result {
             write!(f, " {:>8}", number(ratio, 2))?;
         }
         writeln!(f, " {:>5}{}", number(goal(row), 1), verdict(row))?;
+    }
+    Ok(())
+}
+
+/// The executions in buffers for longer vectors.
+fn write_long(f: &mut Formatter, rows: &[&Row]) -> fmt::Result {
+    if rows.is_empty() {
+        return Ok(());
+    }
+    let width = width(rows.iter().copied());
+    writeln!(
+        f,
+        "long buffers: close is the same call in buffers for its own vectors"
+    )?;
+    writeln!(
+        f,
+        "{:<width$} {:>6} {:>9} {:>9} {:>9} {:>8}",
+        "operation", "length", "archive", "second", "close", "/close"
+    )?;
+    for row in rows {
+        let Record { name, archive, .. } = &row.record;
+        write!(f, "{name:<width$} {:>6}", length(&row.record))?;
+        for time in [Some(*archive), row.second, row.room] {
+            write!(f, " {:>9}", number(time, 1))?;
+        }
+        let [.., ratio] = row.ratios();
+        writeln!(f, " {:>8}", number(ratio, 2))?;
     }
     Ok(())
 }
@@ -147,6 +176,7 @@ mod tests {
             },
             kind: String::new(),
             second: Some(99.96),
+            long: false,
             room: None,
             goal,
         }
@@ -162,13 +192,19 @@ mod tests {
     }
 
     #[test]
-    fn words_and_tiles_have_their_tables() {
+    fn words_long_buffers_and_tiles_have_their_tables() {
         let cliff = Row {
             room: Some(4.0),
             ..row("load, inside", Some(256), Some(Goal::Ratio(5.0)))
         };
+        let long = Row {
+            long: true,
+            room: Some(25.0),
+            ..row("load, long", Some(64), None)
+        };
         let rows = [
             row("load", Some(16), Some(Goal::Ratio(12.0))),
+            long,
             cliff,
             row("take", None, Some(Goal::Nanoseconds(2000.0))),
         ];
@@ -177,6 +213,9 @@ nanoseconds per call, least of 2 rounds of 3 batches
 operation    length   archive    second      copy   strided    /copy /strided    /room  goal
 load             16      30.0     100.0       3.0         -    10.00        -        -  12.0
 load, inside    256      30.0     100.0       3.0         -    10.00        -     7.50   5.0  missed
+long buffers: close is the same call in buffers for its own vectors
+operation  length   archive    second     close   /close
+load, long     64      30.0     100.0      25.0     1.20
 tiles: putting the held ones back (copy) is in the other times
 operation   archive    second      copy     goal
 take           30.0     100.0       3.0   2000.0

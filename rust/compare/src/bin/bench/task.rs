@@ -4,10 +4,8 @@
 use crate::active::Active;
 use crate::empty;
 use crate::machine::Machine;
-use sme_move::{numbers, Buffers, Refusal, Settings};
-
-/// A function that executes a word, as the binding has it.
-pub type Function = fn(Settings, u32, Buffers<'_>) -> (u32, u64);
+use compare::case::Function;
+use sme_move::{numbers, Refusal};
 
 /// What is called in the archive's place.
 #[derive(Clone, Copy, Debug, PartialEq, Eq)]
@@ -47,6 +45,8 @@ pub struct Task {
     /// The number of the answer that it must get.
     pub answer: u32,
     pub vector_bytes: usize,
+    /// The vector length that the buffers are for.
+    pub largest: usize,
     pub element_bytes: usize,
     pub active: Active,
     /// What is different on its machine.
@@ -63,7 +63,7 @@ impl Task {
     /// A machine with what the call is lent.
     pub fn machine(&self) -> Machine {
         let predicate = self.active.predicate(self.vector_bytes, self.element_bytes);
-        let mut machine = Machine::new(self.vector_bytes, &predicate);
+        let mut machine = Machine::new(self.vector_bytes, self.largest, &predicate);
         (self.prepare)(&mut machine);
         machine
     }

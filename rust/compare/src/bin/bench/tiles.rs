@@ -243,6 +243,7 @@ fn row(name: &str, times: &[Times; 3]) -> Row {
         },
         kind: if taking { "take" } else { "give up" }.to_string(),
         second: Some(second),
+        long: false,
         room: None,
         goal: Some(Goal::Nanoseconds(GOAL)),
     }

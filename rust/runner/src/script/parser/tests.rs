@@ -75,6 +75,34 @@ fn settings_are_checked() {
     ]);
 }
 
+/// The line that is told is the later of the two that do not go together.
+#[test]
+fn the_largest_vector_length_is_checked() {
+    faults(&[
+        (
+            "B;largest-vector-bytes 48",
+            "k:2: '48' is no vector length: 16, 32, 64",
+        ),
+        ("B;largest-vector-bytes 0", "k:2: '0' is no vector length"),
+        (
+            "B;largest-vector-bytes",
+            "k:2: 'largest-vector-bytes' takes one value, not 0",
+        ),
+        (
+            "B;largest-vector-bytes 16;;largest-vector-bytes 16",
+            "k:4: 'largest-vector-bytes' is stated twice",
+        ),
+        (
+            "vector-bytes 32;level 3;largest-vector-bytes 16",
+            "k:3: 'largest-vector-bytes' is 16, below the vector length of 32 bytes",
+        ),
+        (
+            "largest-vector-bytes 128;level 3;vector-bytes 256",
+            "k:3: 'largest-vector-bytes' is 128, below the vector length of 256 bytes",
+        ),
+    ]);
+}
+
 #[test]
 fn settings_come_first() {
     faults(&[
@@ -91,7 +119,15 @@ fn settings_come_first() {
             "B;word C0000000;stack-check off",
             "k:3: 'stack-check' is a setting",
         ),
+        (
+            "B;predicate 0 FFFF;largest-vector-bytes 32",
+            "k:3: 'largest-vector-bytes' is a setting",
+        ),
         ("level 3;register 1 2", "k:2: 'vector-bytes' is missing"),
+        (
+            "largest-vector-bytes 64;register 1 2",
+            "k:2: 'vector-bytes' is missing",
+        ),
         ("# nothing;", "k:1: 'vector-bytes' is missing"),
         ("", "k:1: 'vector-bytes' is missing"),
     ]);
@@ -412,6 +448,22 @@ fn the_stack_check_is_on_or_off_as_stated() {
         let first = format!("stack-check {switch}\nvector-bytes 32\nword C0000000\n");
         assert_eq!(settings(&first), expected);
         let last = format!("vector-bytes 32\nstack-check {switch}\nword C0000000\n");
+        assert_eq!(settings(&last), expected);
+    }
+}
+
+/// It is the vector length if it is not stated; the statement changes nothing else, before and after the others.
+#[test]
+fn the_largest_vector_length_is_as_stated() {
+    let settings = |text: &str| parse(text).expect("a good script").settings;
+    let unstated = settings("vector-bytes 32\nword C0000000\n");
+    assert_eq!(unstated.largest_vector_bytes, 32);
+    for bytes in [32, 64, 128, 256] {
+        let mut expected = unstated;
+        expected.largest_vector_bytes = bytes;
+        let first = format!("largest-vector-bytes {bytes}\nvector-bytes 32\nword C0000000\n");
+        assert_eq!(settings(&first), expected);
+        let last = format!("vector-bytes 32\nlargest-vector-bytes {bytes}\nword C0000000\n");
         assert_eq!(settings(&last), expected);
     }
 }

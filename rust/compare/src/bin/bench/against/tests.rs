@@ -17,6 +17,7 @@ fn row(kind: &str, record: Record) -> Row {
         record,
         kind: kind.to_string(),
         second: None,
+        long: false,
         room: None,
         goal: None,
     }

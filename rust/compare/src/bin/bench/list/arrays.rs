@@ -24,6 +24,7 @@ pub fn tasks(vector_bytes: usize) -> [Task; 4] {
             word: word(kind, registers.number()),
             answer: 0,
             vector_bytes,
+            largest: vector_bytes,
             element_bytes: 1,
             active: Active::All,
             prepare: |_| (),

@@ -2,6 +2,7 @@
 
 mod arrays;
 mod cliffs;
+pub mod long;
 mod refusals;
 mod sliced;
 #[cfg(test)]
@@ -30,7 +31,7 @@ pub fn groups(vector_bytes: usize) -> Vec<Vec<Task>> {
     groups.extend(arrays::tasks(vector_bytes).into_iter().map(alone));
     groups.extend(cliffs::groups(vector_bytes));
     groups.extend(refusals::tasks(vector_bytes).into_iter().map(alone));
-    groups
+    groups.into_iter().map(long::beside).collect()
 }
 
 /// What any call takes, whatever is called.

@@ -174,6 +174,7 @@ impl Sliced {
             word: encode(operation).expect("every form has a word"),
             answer: 0,
             vector_bytes: form.vector_bytes,
+            largest: form.vector_bytes,
             element_bytes: form.element_bytes,
             active: form.active,
             prepare: |_| (),

@@ -193,13 +193,38 @@ fn every_encoding_is_timed() {
     }
 }
 
+/// A call in long buffers is the call in close ones, of the five operations
+/// on a tile in three sizes and both directions, and of the four on the array.
+#[test]
+fn long_buffers_stand_beside_the_same_call() {
+    let mut names = HashSet::new();
+    for pair in VECTOR_LENGTHS.into_iter().flat_map(groups) {
+        let [close, long] = &pair[..] else {
+            continue;
+        };
+        if long.largest == long.vector_bytes {
+            continue;
+        }
+        assert_eq!((close.vector_bytes, close.largest), (64, 64));
+        assert_eq!((long.vector_bytes, long.largest), (64, 256));
+        assert_eq!((close.word, close.active), (long.word, long.active));
+        assert_eq!(long.name, format!("{}, buffers for 256", close.name));
+        assert_eq!((long.strided, long.copied, long.goal), (None, 0, None));
+        let [close, machine] = [close.machine(), long.machine()];
+        assert_eq!(close.p[..8], machine.p[..8]);
+        assert_eq!(machine.za.len(), 16 * close.za.len());
+        names.insert(long.name.clone());
+    }
+    assert_eq!(names.len(), 5 * 3 * 2 + 4);
+}
+
 /// A call without its room is the call with room, but for where memory is.
 #[test]
 fn cliffs_stand_beside_the_same_call() {
     for vector_bytes in VECTOR_LENGTHS {
         let pairs = groups(vector_bytes)
             .into_iter()
-            .filter(|group| group.len() > 1);
+            .filter(|group| group.len() > 1 && group[1].largest == vector_bytes);
         let mut names = HashSet::new();
         for pair in pairs {
             let [room, cliff] = &pair[..] else {
@@ -300,7 +325,8 @@ fn goals_are_for_some_lines() {
 #[test]
 fn loops_stand_beside_columns_alone() {
     for task in all_tasks() {
-        let vertical = task.name.contains("vertical");
+        let close = task.largest == task.vector_bytes;
+        let vertical = task.name.contains("vertical") && close;
         assert_eq!(task.strided.is_some(), vertical, "{}", task.name);
         let zeroing = task.strided == Some(Strided::ZeroingFromTile);
         assert!(!zeroing || task.zeroes);
