@@ -4,9 +4,9 @@ use Prim.Native.Nat.{ℕ, zero, suc, _+_, _*_, _/_, _%_, _<_, _≤_}
 use mathlib.Core.Path.{_≡_, refl, sym, ap, _∙_}
 use mathlib.Core.Bool.{true, cond, _&&_, and-false}
 use mathlib.Core.List.{List}
-use native.Mathlib.Nat.{mul-le-mul-right, suc-mul, zero-add, mod-eq-of-lt, mul-div-cancel}
+use native.Mathlib.Nat.{zero-add}
 use native.Mathlib.Omega.{arith}
-use lib.Arith.{digits-div, digits-mod}
+use lib.Arith.{digits-lt, digits-div, digits-mod}
 use lib.Dec.{ltb}
 use lib.ListN.{length, getD}
 use borrow.Author.Tests.{lt-ltb, le-ltb}
@@ -37,7 +37,7 @@ numbered-same f g i (suc n) (suc q) e = let r : suc i + q ≡ i + suc q = omega 
 
 -- ---- the two states
 
--- parts of `apart` bytes, of which the first `long` are given by w: byte k of part v, below `long`, is w's; byte `long` of the first part is b
+-- parts of `apart` bytes, of which the first `long` are given by w: byte k of part v is w's below `long`, and b from there on
 module _ (long apart : ℕ) (w : ℕ → ℕ) where
   abbrev byPart : ℕ → ℕ → ℕ
   byPart b i = cond (ltb (i % apart) long) (w i) b
@@ -50,8 +50,9 @@ module _ (long apart : ℕ) (w : ℕ → ℕ) where
   part-same : (b c n v k : ℕ) → k < long → long ≤ apart → getD (numbered (byPart b) 0 n) (v * apart + k) 0 ≡ getD (numbered (byPart c) 0 n) (v * apart + k) 0
   part-same b c n v k h fit = numbered-same (byPart b) (byPart c) 0 n (v * apart + k) (part-within b v k h fit ∙ sym (part-within c v k h fit))
 
-  part-beyond : (b n : ℕ) → long < apart → long < n → getD (numbered (byPart b) 0 n) long 0 ≡ b
-  part-beyond b n h m = numbered-at (byPart b) 0 n long m ∙ rw (zero-add long, mod-eq-of-lt h, le-ltb long long (omega arith))
+  part-beyond : (b n v k : ℕ) → v < n → long ≤ k → k < apart → getD (numbered (byPart b) 0 (n * apart)) (v * apart + k) 0 ≡ b
+  part-beyond b n v k hv hk below =
+      numbered-at (byPart b) 0 (n * apart) (v * apart + k) (digits-lt hv below) ∙ rw (zero-add (v * apart + k), digits-mod v below, le-ltb k long hk)
 
 -- the same with only the first `long` parts
 module _ (long apart : ℕ) (w : ℕ → ℕ) (fit : long < apart) where
@@ -66,14 +67,15 @@ module _ (long apart : ℕ) (w : ℕ → ℕ) (fit : long < apart) where
   both-same : (b c n v k : ℕ) → v < long → k < long → getD (numbered (byBoth b) 0 n) (v * apart + k) 0 ≡ getD (numbered (byBoth c) 0 n) (v * apart + k) 0
   both-same b c n v k hv hk = numbered-same (byBoth b) (byBoth c) 0 n (v * apart + k) (both-within b v k hv hk ∙ sym (both-within c v k hv hk))
 
-  -- byte `long` of part 0, and byte 0 of part `long`
-  byte-beyond : (b n : ℕ) → long < n → getD (numbered (byBoth b) 0 n) long 0 ≡ b
-  byte-beyond b n m = numbered-at (byBoth b) 0 n long m ∙ rw (zero-add long, mod-eq-of-lt fit, le-ltb long long (omega arith), and-false (ltb (long / apart) long))
+  -- bytes from `long` on, and parts from `long` on
+  byte-beyond : (b n v k : ℕ) → v < n → long ≤ k → k < apart → getD (numbered (byBoth b) 0 (n * apart)) (v * apart + k) 0 ≡ b
+  byte-beyond b n v k hv hk below =
+      numbered-at (byBoth b) 0 (n * apart) (v * apart + k) (digits-lt hv below) ∙
+      rw (zero-add (v * apart + k), digits-mod v below, le-ltb k long hk, and-false (ltb ((v * apart + k) / apart) long))
 
-  part-past : (b n : ℕ) → long * apart < n → getD (numbered (byBoth b) 0 n) (long * apart) 0 ≡ b
-  part-past b n m =
-      let some : 0 < apart = omega arith in
-      numbered-at (byBoth b) 0 n (long * apart) m ∙ rw (zero-add (long * apart), mul-div-cancel long some, le-ltb long long (omega arith))
+  part-past : (b n v k : ℕ) → long ≤ v → v < n → k < apart → getD (numbered (byBoth b) 0 (n * apart)) (v * apart + k) 0 ≡ b
+  part-past b n v k hv most below =
+      numbered-at (byBoth b) 0 (n * apart) (v * apart + k) (digits-lt most below) ∙ rw (zero-add (v * apart + k), digits-div v below, le-ltb v long hv)
 
 pub fillings-shown : FillingsShown
 fillings-shown s t b c laid longer =
@@ -85,8 +87,6 @@ fillings-shown s t b c laid longer =
     let za : ℕ → ℕ = λ i. getD (t .za) i 0 in
     let eights = whole-elements Bits8 B (vector-valid s laid) .eights in
     let eighth : B / 8 < S / 8 = omega (arith, eights, f .eights) in
-    let some : 1 ≤ S = omega arith in
-    let square : B * S < S * S = omega (arith, mul-le-mul-right S longer, suc-mul B S) in
     record {
       agree =
           record {
@@ -99,8 +99,8 @@ fillings-shown s t b c laid longer =
             p = λ v k h. part-same (B / 8) (S / 8) p b c (16 * (S / 8)) v k h (omega (arith, eighth));
             za = λ v k hv hk. both-same B S za longer b c (S * S) v k hv hk;
           };
-      z = part-beyond B S z b (32 * S) longer (omega arith);
-      p = part-beyond (B / 8) (S / 8) p b (16 * (S / 8)) eighth (omega arith);
-      za = byte-beyond B S za longer b (S * S) (omega (arith, mul-le-mul-right S some));
-      vector = part-past B S za longer b (S * S) square;
+      z = part-beyond B S z b 32;
+      p = part-beyond (B / 8) (S / 8) p b 16;
+      za = byte-beyond B S za longer b S;
+      vectors = part-past B S za longer b S;
     }

@@ -3,7 +3,7 @@
 -- of the kind that the theorems of specs/Within.antt are about.
 -- To believe: what each part says. The buffers, none of whose bytes is zero, are those of crates/semantics/specs/ExampleBuffers.antt for vectors of S bytes.
 -- Assumes nothing.
-use Prim.Native.Nat.{ℕ, zero, suc, _+_, _*_, _-_, _/_, _%_, _^_, _<_}
+use Prim.Native.Nat.{ℕ, zero, suc, _+_, _*_, _-_, _/_, _%_, _^_, _<_, _≤_}
 use mathlib.Core.Path.{_≡_}
 use mathlib.Core.Bool.{Bool, true, cond, _&&_, _||_}
 use mathlib.Core.List.{List, [], _∷_, _++_, map}
@@ -16,7 +16,7 @@ use Rattle.semantics.specs.Answer.{executedNumber}
 use Rattle.semantics.specs.Execute.{executeOf}
 use Rattle.semantics.specs.Run.{runOf}
 use Rattle.semantics.specs.ExampleBuffers.{alternate, vectorIn, settingsWithin, zAt, zaAt, memoryOf, stateAt, xWith, ones, Seen, seen, vectors, doneWith, refusedWith}
-use Rattle.long_buffers.specs.Within.{AgreeWithin}
+use Rattle.long_buffers.specs.Within.{B, S, AgreeWithin}
 
 -- a word executed with vectors of B bytes in the buffers for S, with n bytes of memory at address 0
 abbrev pub executedWithin : ℕ → ℕ → ℕ → ℕ → List ℕ → List ℕ → Seen
@@ -49,10 +49,10 @@ pub record MovesWithin : Type 0 where
   -- 1: C0000000, byte tile, row (W12) mod B. B 16 in 32, W12 = 19: row 3, and not 19; under alternating bits
   pub row : executedWithin 16 32 0xC0000000 8 (xWith 12 19) (governedBy 0x55 0x55) ≡
       doneWith (zAt 32) (zaWith 16 32 (λ v. eqb v 3) (λ v. alternate true (zPart 16 32 0) (zaPart 16 32 3))) (memoryOf 8)
-  -- 2: C080ACA9, m = 4, vertical, W13, P3, Z5, tile 2, offset 1. B 32 in 64, W13 = 7: slice 0, element e is bytes 0 to 3 of vector 4e + 2, and e is below 8. P3, which
-  -- starts at byte 24 of P, has bit 4 of each of its four bytes clear, so elements 1, 3, 5 and 7 keep what they have
-  pub column : executedWithin 32 64 0xC080ACA9 8 (xWith 13 7) (replicate 24 255 ++ (replicate 4 0xEF ++ replicate 100 255)) ≡
-      doneWith (zAt 64) (zaWith 4 64 (λ v. ltb v 32 && eqb (v % 8) 2) (λ v. take 4 (drop (4 * (v / 4)) (vectorIn (zAt 64) 64 5)))) (memoryOf 8)
+  -- 2: C080ACA9, m = 4, vertical, W13, P3, Z5, tile 2, offset 1. B 16 in 64, W13 = 7: slice 0, element e is bytes 0 to 3 of vector 4e + 2, and e is below 4. P3, which
+  -- starts at byte 24 of P, has bit 4 of its first two bytes clear, so elements 1 and 3 keep what they have
+  pub column : executedWithin 16 64 0xC080ACA9 8 (xWith 13 7) (replicate 24 255 ++ (replicate 2 0xEF ++ replicate 102 255)) ≡
+      doneWith (zAt 64) (zaWith 4 64 (λ v. ltb v 16 && eqb (v % 8) 2) (λ v. take 4 (drop (4 * (v / 4)) (vectorIn (zAt 64) 64 5)))) (memoryOf 8)
   -- 4: C0C1000F, m = 16. B 16 in 32: one slice, vector 15 whatever W12 holds
   pub single : (w : ℕ) → executedWithin 16 32 0xC0C1000F 8 (xWith 12 w) (ones 32) ≡ doneWith (zAt 32) (zaWith 16 32 (λ v. eqb v 15) (λ v. zPart 16 32 0)) (memoryOf 8)
   -- 6: C0C2E3BF, m = 8, vertical, W15, tile 6, offset 1, Z31. B 32 in 64, W15 = 4,294,967,295: slice 0, element e is bytes 0 to 7 of vector 8e + 6, and e is below 4
@@ -75,8 +75,8 @@ pub record GroupsWithin : Type 0 where
   -- beyond 01's sentence: W8 = 13, and 13 + 3 is 0 modulo 8: vectors 0 and 8, and not 16
   pub again : executedWithin 16 32 0xC0060A6A 8 (xWith 8 13) (ones 32) ≡
       doneWith (zWith 16 32 (λ v. eqb (v / 2) 5) (λ v. zaPart 16 32 (8 * (v - 10)))) (zaWith 16 32 (λ v. eqb v 0 || eqb v 8) (λ v. replicate 16 0)) (memoryOf 8)
-  -- C00668BA, W11, offset 5 (request 1). B 16 in 32, W11 = 6: vectors 3 and 11 to Z26 and Z27, which stay
-  pub twoRead : executedWithin 16 32 0xC00668BA 8 (xWith 11 6) (ones 32) ≡ doneWith (zWith 16 32 (λ v. eqb (v / 2) 13) (λ v. zaPart 16 32 (8 * (v - 26) + 3))) (zaAt 32) (memoryOf 8)
+  -- C00668BA, W11, offset 5 (request 1). B 16 in 64, W11 = 6: vectors 3 and 11 to Z26 and Z27, which stay
+  pub twoRead : executedWithin 16 64 0xC00668BA 8 (xWith 11 6) (ones 64) ≡ doneWith (zWith 16 64 (λ v. eqb (v / 2) 13) (λ v. zaPart 16 64 (8 * (v - 26) + 3))) (zaAt 64) (memoryOf 8)
   -- C0062ED4, W9, offset 6 (request 1). B 16 in 32, W9 = 3: vectors 1, 5, 9, 13 to Z20 to Z23, which are then zero
   pub fourTaken : executedWithin 16 32 0xC0062ED4 8 (xWith 9 3) (ones 32) ≡
       doneWith (zWith 16 32 (λ v. eqb (v / 4) 5) (λ v. zaPart 16 32 (4 * (v - 20) + 1))) (zaWith 16 32 (λ v. ltb v 16 && eqb (v % 4) 1) (λ v. replicate 16 0)) (memoryOf 8)
@@ -138,14 +138,13 @@ module _ (s : Settings) (t : State) where
       (numbered (λ i. cond (ltb (i / S) B && ltb (i % S) B) (getD (t .za) i 0) b) 0 (S * S))
       (t .memory)
 
--- for each pair of a vector length and a longer one, and whatever is within: two such states agree, and differ beyond as they like; that is shown of byte B of register 0, byte
--- B/8 of predicate 0, byte B of vector 0 and byte 0 of vector B
+-- for each pair of a vector length and a longer one, and whatever is within: two such states agree, and every byte beyond is what one likes
 pub record FillingsAgree (s : Settings) (t : State) (b c : ℕ) : Type 0 where
   pub agree : AgreeWithin s (filling s t b) (filling s t c)
-  pub z : getD (filling s t b .z) (s .«vector_bytes») 0 ≡ b
-  pub p : getD (filling s t b .p) (s .«vector_bytes» / 8) 0 ≡ b
-  pub za : getD (filling s t b .za) (s .«vector_bytes») 0 ≡ b
-  pub vector : getD (filling s t b .za) (s .«vector_bytes» * strideOf s) 0 ≡ b
+  pub z : (v k : ℕ) → v < 32 → B s ≤ k → k < S s → getD (filling s t b .z) (v * S s + k) 0 ≡ b
+  pub p : (v k : ℕ) → v < 16 → B s / 8 ≤ k → k < S s / 8 → getD (filling s t b .p) (v * (S s / 8) + k) 0 ≡ b
+  pub za : (v k : ℕ) → v < S s → B s ≤ k → k < S s → getD (filling s t b .za) (v * S s + k) 0 ≡ b
+  pub vectors : (v k : ℕ) → B s ≤ v → v < S s → k < S s → getD (filling s t b .za) (v * S s + k) 0 ≡ b
 
 abbrev pub FillingsShown : Type 0
 FillingsShown = (s : Settings) (t : State) (b c : ℕ) → validVectors s ≡ true → s .«vector_bytes» < strideOf s → FillingsAgree s t b c
