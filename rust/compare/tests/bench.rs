@@ -100,6 +100,53 @@ fn calls_in_long_buffers_have_a_table_of_their_own() {
 }
 
 #[test]
+fn rows_by_predicate_have_a_table_of_their_own() {
+    let printed = quick("move to tile, m=1, horizontal, ", &[]);
+    let lines: Vec<_> = printed.lines().collect();
+    // A heading of two lines, four predicates at four lengths and one at the fifth, another heading, seven predicates, a pair,
+    // and, for vectors of 64 bytes in buffers for 256, another heading and a line, and the goals.
+    assert_eq!(
+        lines.len(),
+        2 + 4 * 4 + 1 + 2 + 7 + 1 + 2 + 1 + 1,
+        "{printed}"
+    );
+    assert!(lines[19].starts_with("rows by predicate: "), "{printed}");
+    assert!(
+        lines[20].ends_with("/copy  goal     /all  goal"),
+        "{printed}"
+    );
+    assert!(lines[21].starts_with("move to tile, m=1, horizontal, all "));
+    assert!(lines[27].starts_with("move to tile, m=1, horizontal, random "));
+    let pair = "all over alternating, move to tile, m=1, horizontal: ";
+    assert!(lines[28].starts_with(pair), "{printed}");
+    // Of the others only the row with all elements active is timed with it, and no pair is.
+    let printed = quick("load, m=4, horizontal, random", &[]);
+    let lines: Vec<_> = printed.lines().collect();
+    assert_eq!(lines.len(), 1 + 2 + 2 + 1, "{printed}");
+    assert!(lines[3].starts_with("load, m=4, horizontal, all "));
+    assert!(lines[4].starts_with("load, m=4, horizontal, random "));
+}
+
+/// Rows that earlier tables had among the others are found again, and those of new predicates are told.
+#[test]
+fn rows_by_predicate_are_compared_with_an_earlier_run() {
+    let earlier = path("predicates");
+    let row = |active, time| format!("store, m=4, horizontal, {active}\t256\t{time}\t4.0\t-\n");
+    let rows = row("all", "1000000.0") + &row("none", "1000000.0");
+    fs::write(&earlier, format!("{HEADING}\n{rows}")).expect("it can be written");
+    let printed = quick(
+        "store, m=4, horizontal, none",
+        &["--against", text(&earlier)],
+    );
+    for part in [
+        "2 rows faster, 0 slower, 0 the same within 5 %",
+        "\nstore, horizontal     2 ",
+    ] {
+        assert!(printed.contains(part), "{part:?} in {printed}");
+    }
+}
+
+#[test]
 fn a_saved_run_is_compared_with_a_later_one() {
     let (first, second) = (path("first"), path("second"));
     quick("answer 1, level", &["--save", text(&first)]);

@@ -1,5 +1,7 @@
 //! Which elements are active, and the predicate bits that say so.
 
+use second::inputs::random::Random;
+
 /// Which elements are active. They are counted by element, so that their part
 /// is the same for every size.
 #[derive(Clone, Copy, Debug, PartialEq, Eq)]
@@ -19,7 +21,20 @@ pub enum Active {
     /// passes over empty predicate bytes finds none to pass over. Elements of
     /// 1 byte leave no such bit.
     Stray,
+    /// The first 100 of 256, rounded down, but one at least.
+    Prefix,
+    /// Predicate bytes of which all elements are active, and bytes of which
+    /// none is, in turn. An element that is larger than what goes by one byte
+    /// counts as a byte.
+    WholeAndEmpty,
+    /// The same, but with every second element active instead of none.
+    WholeAndHalf,
+    /// Each or not by chance, the same in every run.
+    Random,
 }
+
+/// What the random ones are drawn from.
+const SEED: u64 = 3;
 
 /// Those under which every operation with a predicate is timed.
 pub const USUAL: [Active; 4] = [
@@ -41,11 +56,17 @@ impl Active {
             Active::LastHalf => "last half",
             Active::Last => "last",
             Active::Stray => "stray",
+            Active::Prefix => "prefix",
+            Active::WholeAndEmpty => "whole and empty",
+            Active::WholeAndHalf => "whole and half",
+            Active::Random => "random",
         }
     }
 
-    /// Whether this element of so many is active.
-    fn has(self, element: usize, elements: usize) -> bool {
+    /// Whether this element of so many is active, where so many go by one
+    /// predicate byte.
+    fn has(self, element: usize, elements: usize, in_a_byte: usize) -> bool {
+        let in_whole_byte = (element / in_a_byte).is_multiple_of(2);
         match self {
             Active::All => true,
             Active::Alternating => element.is_multiple_of(2),
@@ -54,6 +75,10 @@ impl Active {
             Active::FirstHalf => element < elements / 2,
             Active::LastHalf => element >= elements / 2,
             Active::Last => element + 1 == elements,
+            Active::Prefix => element < (elements * 100 / 256).max(1),
+            Active::WholeAndEmpty => in_whole_byte,
+            Active::WholeAndHalf => in_whole_byte || element.is_multiple_of(2),
+            Active::Random => drawn(element),
         }
     }
 
@@ -61,10 +86,11 @@ impl Active {
     /// (document 01, section 3), and no other bit is set but stray ones.
     pub fn predicate(self, vector_bytes: usize, element_bytes: usize) -> Vec<u8> {
         let elements = vector_bytes / element_bytes;
+        let in_a_byte = (8 / element_bytes).max(1);
         let mut predicate = vec![0; vector_bytes / 8];
         for bit in 0..vector_bytes {
             let is_set = if bit.is_multiple_of(element_bytes) {
-                self.has(bit / element_bytes, elements)
+                self.has(bit / element_bytes, elements, in_a_byte)
             } else {
                 self == Active::Stray
             };
@@ -72,6 +98,15 @@ impl Active {
         }
         predicate
     }
+}
+
+/// The bit of this element, where each draw gives those of 64.
+fn drawn(element: usize) -> bool {
+    let mut random = Random::new(SEED);
+    for _ in 0..element / 64 {
+        random.bits();
+    }
+    random.bits() >> (element % 64) & 1 == 1
 }
 
 #[cfg(test)]
@@ -128,6 +163,70 @@ mod tests {
         let stray = [0xFFFE_FFFE_FFFE_FFFE];
         let sixteens = [&all[..], &fewer, &parts, &stray].concat();
         assert_eq!(bits(64, 16), sixteens[..]);
+    }
+
+    #[test]
+    fn of_bytes_in_turn() {
+        for (element_bytes, [whole, half]) in [
+            (1, [0xFF, 0x55]),
+            (2, [0x55, 0x11]),
+            (4, [0x11, 0x01]),
+            (8, [0x01, 0x00]),
+        ] {
+            for vector_bytes in [64, 256] {
+                let of = |active: Active| active.predicate(vector_bytes, element_bytes);
+                let in_turn = |second| [whole, second].repeat(vector_bytes / 16);
+                assert_eq!(of(Active::WholeAndEmpty), in_turn(0), "{element_bytes}");
+                assert_eq!(of(Active::WholeAndHalf), in_turn(half), "{element_bytes}");
+            }
+        }
+    }
+
+    /// A predicate byte has no more than one of the large elements, so that
+    /// there is no half of it.
+    #[test]
+    fn large_elements_in_turn_alternate() {
+        for element_bytes in [8, 16] {
+            let of = |active: Active| active.predicate(256, element_bytes);
+            assert_eq!(of(Active::WholeAndEmpty), of(Active::Alternating));
+            assert_eq!(of(Active::WholeAndHalf), of(Active::Alternating));
+        }
+    }
+
+    #[test]
+    fn prefixes_have_no_gap() {
+        // How many are active, none of which is behind an inactive one.
+        let prefix = |vector_bytes: usize, element_bytes: usize| {
+            let predicate = Active::Prefix.predicate(vector_bytes, element_bytes);
+            let firsts = (0..vector_bytes).step_by(element_bytes);
+            let active = firsts.map(|bit| predicate[bit / 8] >> (bit % 8) & 1 == 1);
+            let active: Vec<_> = active.collect();
+            assert!(active.is_sorted_by(|one, next| one >= next));
+            active.iter().filter(|&&is_active| is_active).count()
+        };
+        assert_eq!([1, 4, 16].map(|size| prefix(256, size)), [100, 25, 6]);
+        assert_eq!([1, 4, 16].map(|size| prefix(64, size)), [25, 6, 1]);
+        assert_eq!([8, 16].map(|size| prefix(16, size)), [1, 1]);
+    }
+
+    /// Of 1-byte elements they are random bytes, those of a draw in the order
+    /// in which the generator fills a buffer.
+    #[test]
+    fn random_ones_are_drawn() {
+        let mut drawn = [0; 32];
+        Random::new(SEED).fill(&mut drawn);
+        assert_eq!(Active::Random.predicate(256, 1), drawn);
+        let bit = |at: usize| drawn[at / 8] >> (at % 8) & 1 == 1;
+        for element_bytes in [1, 2, 4, 8, 16] {
+            let elements = 256 / element_bytes;
+            let predicate = Active::Random.predicate(256, element_bytes);
+            let expected = (0..elements).filter(|&at| bit(at)).count();
+            let count = predicate.iter().map(|byte| byte.count_ones() as usize);
+            assert_eq!(count.sum::<usize>(), expected);
+            // Neither few nor many, and not in turn.
+            assert!((elements / 4..=elements * 3 / 4).contains(&expected));
+            assert_ne!(predicate, Active::Alternating.predicate(256, element_bytes));
+        }
     }
 
     /// At 256 bytes the bits are counted: one for each active element, or all

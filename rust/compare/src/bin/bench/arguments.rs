@@ -80,16 +80,22 @@ over all lines, and within a line from contestant to contestant. It takes a litt
   /copy, /strided    the archive's time over that one's
   /room      where memory ends or begins inside the vector: over the archive's time for the same
              call with room to spare, which is the line before
+  /all       in a table apart, of rows of 256 bytes by predicate: over the archive's time for the
+             same call with all elements active, which is timed in turns with it
   /close     in a table apart, of vectors of 64 bytes in buffers for 256: over the archive's time
              for the same call in buffers for 64
-  goal       the most that the last of these ratios is to be, or of nanoseconds for tiles that are
-             taken and given up; a goal that is missed is marked
+  goal       the most that the last of these ratios is to be, or by predicate the one before the
+             goal, or of nanoseconds for tiles that are taken and given up; a goal that is missed
+             is marked. Below the table by predicate stands, with its goal, the archive's time for
+             moves of all bytes over that for moves of every second
 
 m is the bytes of an element. Active are all elements, every second (alternating), every eighth
 (sparse, the first alone where there are no more than eight), none, a half, or the last alone; or
-none although every bit of the predicate is set that no element goes by (stray). A line that is
-called after an answer is refused with it. A misaligned stack pointer is refused only where an
-element is active.
+none although every bit of the predicate is set that no element goes by (stray). In the table by
+predicate there are also the first 100 of 256 (prefix); predicate bytes in turn of which all
+elements are active and none is (whole and empty), or all and every second (whole and half); and
+some by chance, the same in each run (random). A line that is called after an answer is refused with
+it. A misaligned stack pointer is refused only where an element is active.
 
 A saved table holds the times of one machine: only runs on the same machine compare, while it does
 nothing else. SME_MOVE_LIB_DIR chooses the archive when the program is built, so an old archive and

@@ -1,8 +1,9 @@
 //! Lines that are timed in turns: one alone, or several of which all but the
-//! first are the first's call without its room to spare, or in long buffers.
+//! first are the first's call without its room to spare, with other elements
+//! active, or in long buffers.
 
 use crate::contest::Contest;
-use crate::row::{Goal, Record, Row};
+use crate::row::{Record, Row};
 use crate::task::Task;
 use crate::timing::{Timed, Times, Turn};
 
@@ -51,9 +52,9 @@ fn row(contest: &Contest) -> Row {
         },
         kind: task.kind.clone(),
         second: least(&contest.second),
-        long: task.largest > task.vector_bytes,
+        part: task.part,
         room: None,
-        goal: task.goal.map(Goal::Ratio),
+        goal: task.goal,
     }
 }
 

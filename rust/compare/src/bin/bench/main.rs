@@ -2,9 +2,10 @@
 //! as many bytes (and clearing as many, for what zeroes), and a plain strided
 //! loop: each encoding, the calls that might be much slower than others like
 //! them, and those that are refused. The goal, where there is one, is for the
-//! last ratio of the line, and a goal that is missed is told. Taking tiles
-//! and giving them up has a table and a goal of its own. A run can be saved,
-//! and a later one be compared with it.
+//! last ratio of the line, and a goal that is missed is told. Rows by
+//! predicate have a table of their own, where a goal stands behind its ratio,
+//! as have taking tiles and giving them up, where it is a time. A run can be
+//! saved, and a later one be compared with it.
 
 #![forbid(unsafe_code)]
 
@@ -17,6 +18,7 @@ mod empty;
 mod group;
 mod list;
 mod machine;
+mod pair;
 mod placed;
 mod plain;
 mod progress;

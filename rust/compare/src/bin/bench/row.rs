@@ -21,10 +21,26 @@ impl Record {
 /// The most that something is to be.
 #[derive(Clone, Copy, Debug, PartialEq)]
 pub enum Goal {
-    /// The last ratio of the line.
-    Ratio(f64),
+    /// The ratio to the copy.
+    Copies(f64),
+    /// The ratio to the strided loop.
+    Loops(f64),
+    /// The ratio to the call that the line is beside.
+    Beside(f64),
     /// The archive's time.
     Nanoseconds(f64),
+}
+
+/// Where in the table a line stands.
+#[derive(Clone, Copy, Debug, PartialEq, Eq)]
+pub enum Part {
+    /// The executions of words, but for those that stand apart.
+    Words,
+    /// Rows of one operation and size, by which elements are active.
+    Predicates,
+    /// Where the buffers are for longer vectors.
+    LongBuffers,
+    Tiles,
 }
 
 /// A line.
@@ -34,10 +50,10 @@ pub struct Row {
     /// What it is counted under where runs are compared.
     pub kind: String,
     pub second: Option<f64>,
-    /// Whether the buffers are for longer vectors.
-    pub long: bool,
-    /// The archive's time for the same call with room to spare or, where the
-    /// buffers are for longer vectors, in buffers for its own.
+    pub part: Part,
+    /// The archive's time for the same call with room to spare; or with all
+    /// elements active, among rows by predicate; or, where the buffers are for
+    /// longer vectors, in buffers for its own.
     pub room: Option<f64>,
     pub goal: Option<Goal>,
 }
@@ -57,13 +73,14 @@ impl Row {
 
     /// Whether the goal is met, if there is one.
     pub fn meets_goal(&self) -> Option<bool> {
-        match self.goal? {
-            Goal::Ratio(most) => {
-                let last = self.ratios().into_iter().flatten().last();
-                last.map(|ratio| ratio <= most)
-            }
-            Goal::Nanoseconds(most) => Some(self.record.archive <= most),
-        }
+        let [copies, loops, beside] = self.ratios();
+        let (reached, most) = match self.goal? {
+            Goal::Copies(most) => (copies, most),
+            Goal::Loops(most) => (loops, most),
+            Goal::Beside(most) => (beside, most),
+            Goal::Nanoseconds(most) => (Some(self.record.archive), most),
+        };
+        reached.map(|reached| reached <= most)
     }
 }
 
@@ -83,26 +100,24 @@ mod tests {
             },
             kind: "load".to_string(),
             second: None,
-            long: false,
+            part: Part::Words,
             room,
             goal: Some(goal),
         }
     }
 
     #[test]
-    fn goals_are_for_the_last_ratio() {
-        let (copy, strided, room) = (Some(3.0), Some(20.0), Some(5.0));
-        let meets = |copy, strided, room, most| {
-            let row = row(copy, strided, room, Goal::Ratio(most));
-            row.meets_goal()
-        };
-        assert_eq!(meets(copy, None, None, 10.0), Some(true));
-        assert_eq!(meets(copy, None, None, 9.9), Some(false));
-        assert_eq!(meets(copy, strided, None, 1.5), Some(true));
-        assert_eq!(meets(copy, strided, None, 1.4), Some(false));
-        assert_eq!(meets(copy, strided, room, 6.0), Some(true));
-        assert_eq!(meets(copy, strided, room, 5.0), Some(false));
-        assert_eq!(meets(None, None, None, 5.0), None);
+    fn goals_are_for_the_ratio_that_they_name() {
+        let meets = |goal| row(Some(3.0), Some(20.0), Some(5.0), goal).meets_goal();
+        assert_eq!(meets(Goal::Copies(10.0)), Some(true));
+        assert_eq!(meets(Goal::Copies(9.9)), Some(false));
+        assert_eq!(meets(Goal::Loops(1.5)), Some(true));
+        assert_eq!(meets(Goal::Loops(1.4)), Some(false));
+        assert_eq!(meets(Goal::Beside(6.0)), Some(true));
+        assert_eq!(meets(Goal::Beside(5.0)), Some(false));
+        for goal in [Goal::Copies(5.0), Goal::Loops(5.0), Goal::Beside(5.0)] {
+            assert_eq!(row(None, None, None, goal).meets_goal(), None);
+        }
     }
 
     #[test]

@@ -3,10 +3,11 @@
 use crate::against::Comparison;
 use crate::arguments::Arguments;
 use crate::group::Group;
-use crate::list::{self, VECTOR_LENGTHS};
+use crate::list::{self, predicates, VECTOR_LENGTHS};
 use crate::progress::Progress;
 use crate::row::Row;
 use crate::table::Table;
+use crate::task::Task;
 use crate::timing::{Effort, Timed};
 use crate::{saved, stack, tiles};
 use std::io::{self, Write};
@@ -30,6 +31,7 @@ fn time_and_tell(arguments: &Arguments) -> Result<(), String> {
     save.map_or(Ok(()), |path| saved::write(path, &rows))?;
     let table = Table {
         rows: &rows,
+        pairs: &predicates::pairs(),
         effort: arguments.effort,
     };
     let mut text = table.to_string();
@@ -45,8 +47,9 @@ fn time_and_tell(arguments: &Arguments) -> Result<(), String> {
 /// must.
 fn chosen(arguments: &Arguments) -> Result<Vec<Box<dyn Timed>>, String> {
     let mut chosen: Vec<Box<dyn Timed>> = Vec::new();
-    for tasks in VECTOR_LENGTHS.into_iter().flat_map(list::groups) {
-        if tasks.iter().any(|task| arguments.wants(&task.name)) {
+    for group in VECTOR_LENGTHS.into_iter().flat_map(list::groups) {
+        let tasks = wanted(group, arguments);
+        if !tasks.is_empty() {
             chosen.push(Box::new(Group::new(tasks)?));
         }
     }
@@ -55,6 +58,19 @@ fn chosen(arguments: &Arguments) -> Result<Vec<Box<dyn Timed>>, String> {
         (true, Some(text)) => Err(format!("no line has '{text}' in its name")),
         _ => Ok(chosen),
     }
+}
+
+/// The lines of a group that are asked for, behind the first, which they are
+/// set beside; none if none is.
+fn wanted(mut group: Vec<Task>, arguments: &Arguments) -> Vec<Task> {
+    let is_wanted = |task: &Task| arguments.wants(&task.name);
+    if !group.iter().any(is_wanted) {
+        return Vec::new();
+    }
+    let mut others = group.split_off(1);
+    others.retain(is_wanted);
+    group.extend(others);
+    group
 }
 
 /// Goes over all lines, round by round.

@@ -146,6 +146,7 @@ fn check_distinct(records: &[Record]) -> Result<(), Malformed> {
 #[cfg(test)]
 mod tests {
     use super::*;
+    use crate::row::Part;
 
     const HEADING: &str =
         "sme_move benchmark, format 1: name, vector length, archive ns, copy ns, strided ns\n";
@@ -171,7 +172,7 @@ mod tests {
             record,
             kind: String::new(),
             second: None,
-            long: false,
+            part: Part::Words,
             room: None,
             goal: None,
         }

@@ -4,6 +4,7 @@
 use crate::active::Active;
 use crate::empty;
 use crate::machine::Machine;
+use crate::row::{Goal, Part};
 use compare::case::Function;
 use sme_move::{numbers, Refusal};
 
@@ -55,8 +56,8 @@ pub struct Task {
     pub copied: usize,
     pub zeroes: bool,
     pub strided: Option<Strided>,
-    /// The most that the line's last ratio is to be.
-    pub goal: Option<f64>,
+    pub goal: Option<Goal>,
+    pub part: Part,
 }
 
 impl Task {

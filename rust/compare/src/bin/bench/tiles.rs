@@ -3,7 +3,7 @@
 //! is in both times, and is also timed alone.
 
 use crate::arguments::Arguments;
-use crate::row::{Goal, Record, Row};
+use crate::row::{Goal, Part, Record, Row};
 use crate::timing::{Caller, Timed, Times, Turn};
 use compare::names;
 use compare::tiles::call::Call;
@@ -243,7 +243,7 @@ fn row(name: &str, times: &[Times; 3]) -> Row {
         },
         kind: if taking { "take" } else { "give up" }.to_string(),
         second: Some(second),
-        long: false,
+        part: Part::Tiles,
         room: None,
         goal: Some(Goal::Nanoseconds(GOAL)),
     }

@@ -1,6 +1,7 @@
 //! Two runs of a few rows.
 
 use super::*;
+use crate::row::Part;
 
 fn record(name: &str, vector_bytes: Option<usize>, archive: f64) -> Record {
     Record {
@@ -17,7 +18,7 @@ fn row(kind: &str, record: Record) -> Row {
         record,
         kind: kind.to_string(),
         second: None,
-        long: false,
+        part: Part::Words,
         room: None,
         goal: None,
     }

@@ -1,6 +1,7 @@
 //! The moves of whole vectors of the array.
 
 use crate::active::Active;
+use crate::row::Part;
 use crate::task::{Callee, Task};
 use compare::names;
 use sme_move::{encode_fields, Fields, Kind, RegisterCount};
@@ -32,6 +33,7 @@ pub fn tasks(vector_bytes: usize) -> [Task; 4] {
             zeroes: kind == Kind::MovazFromArray,
             strided: None,
             goal: None,
+            part: Part::Words,
         }
     })
 }

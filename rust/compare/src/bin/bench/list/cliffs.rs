@@ -8,11 +8,12 @@
 use super::sliced::{based_on_stack, Form, Sliced, FROM_TILE, LOAD, STORE, TO_TILE};
 use crate::active::Active;
 use crate::machine::Machine;
+use crate::row::Goal;
 use crate::task::Task;
 use sme_move::Direction;
 
 /// Memory that ends inside may cost so many times the call with room.
-const GOAL: f64 = 5.0;
+const GOAL: Goal = Goal::Beside(5.0);
 
 /// Pairs with room and without, and single columns and rows.
 pub fn groups(vector_bytes: usize) -> Vec<Vec<Task>> {

@@ -2,6 +2,7 @@
 //! for its own: how much it costs that vectors are further apart.
 
 use crate::active::Active;
+use crate::row::Part;
 use crate::task::{Callee, Task};
 
 /// The one vector length, and the one that buffers are for.
@@ -41,6 +42,7 @@ fn in_long_buffers(task: &Task) -> Task {
         copied: 0,
         strided: None,
         goal: None,
+        part: Part::LongBuffers,
         ..task.changed(&how, |_| ())
     }
 }

@@ -3,6 +3,7 @@
 mod arrays;
 mod cliffs;
 pub mod long;
+pub mod predicates;
 mod refusals;
 mod sliced;
 #[cfg(test)]
@@ -22,10 +23,11 @@ pub fn groups(vector_bytes: usize) -> Vec<Vec<Task>> {
     let alone = |task: Task| vec![task];
     for sliced in [TO_TILE, FROM_TILE, LOAD, STORE] {
         for active in USUAL {
-            let named = |form| alone(sliced.under_predicate(form));
-            groups.extend(Form::all(vector_bytes, active).map(named));
+            let forms = Form::all(vector_bytes, active).filter(|&form| !predicates::is_timed(form));
+            groups.extend(forms.map(|form| alone(sliced.under_predicate(form))));
         }
     }
+    groups.extend(predicates::groups(vector_bytes));
     let zeroing = |form| alone(ZEROING_FROM_TILE.task(form));
     groups.extend(Form::all(vector_bytes, Active::All).map(zeroing));
     groups.extend(arrays::tasks(vector_bytes).into_iter().map(alone));

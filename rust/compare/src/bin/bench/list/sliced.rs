@@ -2,6 +2,7 @@
 //! size.
 
 use crate::active::Active;
+use crate::row::{Goal, Part};
 use crate::task::{Callee, Strided, Task};
 use compare::names;
 use sme_move::{decode_fields, encode, encode_fields};
@@ -23,12 +24,12 @@ const STACK_POINTER: u8 = 31;
 /// An operation in its five sizes, with the loop beside it and its goal.
 #[derive(Clone, Copy)]
 pub struct Sliced {
-    kind: Kind,
+    pub kind: Kind,
     /// Of a tile of this size, and of this direction.
     operation: fn(ElementSize, Direction) -> Operation,
     zeroes: bool,
     strided: Strided,
-    goal: fn(Form) -> Option<f64>,
+    goal: fn(Form) -> Option<Goal>,
 }
 
 pub const TO_TILE: Sliced = Sliced {
@@ -182,6 +183,7 @@ impl Sliced {
             zeroes: self.zeroes,
             strided: form.is_vertical().then_some(self.strided),
             goal: (self.goal)(form),
+            part: Part::Words,
         }
     }
 
@@ -197,14 +199,18 @@ impl Sliced {
 
 /// For three sizes eight copies for a row, and one and a half strided loops
 /// for a column.
-fn goal_of_move(form: Form) -> Option<f64> {
-    let times = if form.is_vertical() { 1.5 } else { 8.0 };
-    [1, 4, 16].contains(&form.element_bytes).then_some(times)
+fn goal_of_move(form: Form) -> Option<Goal> {
+    let goal = if form.is_vertical() {
+        Goal::Loops(1.5)
+    } else {
+        Goal::Copies(8.0)
+    };
+    [1, 4, 16].contains(&form.element_bytes).then_some(goal)
 }
 
 /// For a row of the longest vectors, of small elements: six copies if all
 /// elements are active, and twelve if not.
-fn goal_of_access(form: Form) -> Option<f64> {
+fn goal_of_access(form: Form) -> Option<Goal> {
     let times = if form.active == Active::All {
         6.0
     } else {
@@ -212,5 +218,5 @@ fn goal_of_access(form: Form) -> Option<f64> {
     };
     let small = [1, 4].contains(&form.element_bytes);
     let has_goal = small && !form.is_vertical() && form.vector_bytes == 256;
-    has_goal.then_some(times)
+    has_goal.then_some(Goal::Copies(times))
 }

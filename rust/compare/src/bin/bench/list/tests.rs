@@ -3,6 +3,7 @@
 use super::*;
 use crate::contestants;
 use crate::machine::{Machine, ADDRESS};
+use crate::row::{Goal, Part};
 use crate::task::Strided;
 use crate::timing::Caller;
 use compare::case::archive_settings;
@@ -133,7 +134,7 @@ fn words_decode_to_what_names_say() {
         assert_eq!(registers, expected);
         seen += 1;
     }
-    assert_eq!(seen, 288);
+    assert_eq!(seen, 336);
 }
 
 #[test]
@@ -218,13 +219,72 @@ fn long_buffers_stand_beside_the_same_call() {
     assert_eq!(names.len(), 5 * 3 * 2 + 4);
 }
 
+/// The rows by predicate are of four operations in three sizes, each group the
+/// same word under seven predicates, of which all elements active comes first.
+/// No other group is in that part of the table.
+#[test]
+fn rows_by_predicate_stand_beside_all() {
+    for vector_bytes in VECTOR_LENGTHS {
+        let by_predicate = |task: &Task| task.part == Part::Predicates;
+        let mut words = HashSet::new();
+        for group in groups(vector_bytes) {
+            if !group.iter().any(by_predicate) {
+                continue;
+            }
+            assert!(group.iter().all(by_predicate));
+            let first = &group[0];
+            let end = ", horizontal, all";
+            let operation = first.name.strip_suffix(end).expect("all comes first");
+            let expected = [
+                "all",
+                "alternating",
+                "none",
+                "prefix",
+                "whole and empty",
+                "whole and half",
+                "random",
+            ]
+            .map(|active| format!("{operation}, horizontal, {active}"));
+            let names: Vec<_> = group.iter().map(|task| &task.name[..]).collect();
+            assert_eq!(names, expected);
+            for task in &group {
+                assert_eq!((task.word, &task.kind), (first.word, &first.kind));
+                assert_eq!((task.copied, task.strided), (1, None));
+            }
+            assert!([1, 4, 16].contains(&first.element_bytes));
+            words.insert(first.word);
+        }
+        assert_eq!(words.len(), if vector_bytes == 256 { 12 } else { 0 });
+    }
+}
+
+/// Both lines of a pair are timed, in one group.
+#[test]
+fn pairs_are_of_lines_in_turns() {
+    let groups = groups(256);
+    for (pair, operation) in predicates::pairs()
+        .into_iter()
+        .zip(["move to tile", "move from tile"])
+    {
+        let start = format!("{operation}, m=1, horizontal");
+        assert_eq!(pair.name, format!("all over alternating, {start}"));
+        let lines = ["all", "alternating"].map(|active| format!("{start}, {active}"));
+        assert_eq!((&pair.lines, pair.vector_bytes), (&lines, 256));
+        let has = |group: &[Task], line: &String| group.iter().any(|task| task.name == *line);
+        let together = groups
+            .iter()
+            .filter(|group| pair.lines.iter().all(|line| has(group, line)));
+        assert_eq!(together.count(), 1);
+    }
+}
+
 /// A call without its room is the call with room, but for where memory is.
 #[test]
 fn cliffs_stand_beside_the_same_call() {
     for vector_bytes in VECTOR_LENGTHS {
         let pairs = groups(vector_bytes)
             .into_iter()
-            .filter(|group| group.len() > 1 && group[1].largest == vector_bytes);
+            .filter(|group| group.len() > 1 && group[1].part == Part::Words);
         let mut names = HashSet::new();
         for pair in pairs {
             let [room, cliff] = &pair[..] else {
@@ -304,21 +364,34 @@ fn bytes_outside_are_where_names_say() {
 }
 
 /// The goals of the moves are for three sizes, those of loads and stores for
-/// rows of 256 bytes and two sizes, and those of cliffs for memory's end.
+/// rows of 256 bytes and two sizes, and those of cliffs for memory's end. Rows
+/// by predicate have others for moves with all and with no element active, and
+/// none where the predicate is not a usual one.
 #[test]
 fn goals_are_for_some_lines() {
     for vector_bytes in VECTOR_LENGTHS {
         let tasks = tasks(vector_bytes);
         let with = |goal| tasks.iter().filter(move |task| task.goal == Some(goal));
+        let copies = |most| with(Goal::Copies(most));
+        let [loops, ends, none] = [Goal::Loops(1.5), Goal::Beside(5.0), Goal::Beside(1.2)];
         let pairs = if vector_bytes == 16 { 16 } else { 20 };
         let longest = usize::from(vector_bytes == 256);
-        let counts = [8.0, 1.5, 6.0, 12.0, 5.0].map(|goal| with(goal).count());
-        assert_eq!(counts, [27, 27, 4 * longest, 12 * longest, pairs]);
-        assert!(with(1.5).all(|task| task.strided.is_some()));
-        assert!(with(8.0).all(|task| task.name.contains("horizontal")));
-        assert!(with(5.0).all(|task| task.name.ends_with("memory ends inside")));
+        let counts = [8.0, 5.5, 6.0, 12.0].map(|most| copies(most).count());
+        let by_length = [27 - 12 * longest, 6 * longest, 4 * longest, 12 * longest];
+        assert_eq!(counts, by_length);
+        let counts = [loops, ends, none].map(|goal| with(goal).count());
+        assert_eq!(counts, [27, pairs, 6 * longest]);
+        assert!(with(loops).all(|task| task.strided.is_some()));
+        assert!(copies(8.0).all(|task| task.name.contains("horizontal")));
+        assert!(with(ends).all(|task| task.name.ends_with("memory ends inside")));
         let sized = |task: &Task| ["m=1,", "m=4,"].iter().any(|size| task.name.contains(size));
-        assert!(with(6.0).chain(with(12.0)).all(sized));
+        assert!(copies(6.0).chain(copies(12.0)).all(sized));
+        let moved = |task: &Task| task.name.starts_with("move ");
+        assert!(copies(5.5).chain(with(none)).all(moved));
+        assert!(copies(5.5).all(|task| task.active == Active::All));
+        assert!(with(none).all(|task| task.active == Active::None));
+        let mut goals = tasks.iter().filter(|task| task.goal.is_some());
+        assert!(goals.all(|task| USUAL.contains(&task.active) || task.goal == Some(ends)));
     }
 }
 

@@ -1,12 +1,19 @@
 //! The table as it is printed.
 
-use crate::row::{Goal, Record, Row};
+mod predicates;
+#[cfg(test)]
+mod tests;
+
+use crate::pair::Pair;
+use crate::row::{Goal, Part, Record, Row};
 use crate::timing::Effort;
 use std::fmt::{self, Display, Formatter};
 
 /// All rows of a run.
 pub struct Table<'a> {
     pub rows: &'a [Row],
+    /// Rows that have a goal between them.
+    pub pairs: &'a [Pair],
     pub effort: Effort,
 }
 
@@ -19,22 +26,28 @@ impl Display for Table<'_> {
             f,
             "nanoseconds per call, least of {rounds} rounds of {batches} batches"
         )?;
-        let of_words = |row: &&Row| row.record.vector_bytes.is_some();
-        let (words, tiles): (Vec<_>, Vec<_>) = self.rows.iter().partition(of_words);
-        let (long, words): (Vec<_>, Vec<_>) = words.into_iter().partition(|row| row.long);
-        write_words(f, &words)?;
-        write_long(f, &long)?;
-        write_tiles(f, &tiles)?;
+        write_words(f, &self.part(Part::Words))?;
+        predicates::write(f, &self.part(Part::Predicates))?;
+        predicates::write_pairs(f, self)?;
+        write_long(f, &self.part(Part::LongBuffers))?;
+        write_tiles(f, &self.part(Part::Tiles))?;
         let [met, missed] = [true, false].map(|met| self.goals(met));
         writeln!(f, "{met} goals met, {missed} missed")
     }
 }
 
 impl Table<'_> {
+    /// The rows that stand there.
+    fn part(&self, part: Part) -> Vec<&Row> {
+        self.rows.iter().filter(|row| row.part == part).collect()
+    }
+
     /// How many goals are met, or missed.
     fn goals(&self, met: bool) -> usize {
-        let meets = self.rows.iter().filter_map(Row::meets_goal);
-        meets.filter(|&own| own == met).count()
+        let of_rows = self.rows.iter().map(Row::meets_goal);
+        let of_pairs = self.pairs.iter().map(|pair| pair.meets_goal(self.rows));
+        let meets = of_rows.chain(of_pairs);
+        meets.filter(|&own| own == Some(met)).count()
     }
 }
 
@@ -144,12 +157,19 @@ pub fn length(record: &Record) -> String {
 
 fn goal(row: &Row) -> Option<f64> {
     row.goal.map(|goal| match goal {
-        Goal::Ratio(most) | Goal::Nanoseconds(most) => most,
+        Goal::Copies(most) | Goal::Loops(most) | Goal::Beside(most) | Goal::Nanoseconds(most) => {
+            most
+        }
     })
 }
 
 fn verdict(row: &Row) -> &'static str {
-    if row.meets_goal() == Some(false) {
+    missed(row.meets_goal())
+}
+
+/// What stands behind a goal, which is met or not, if there is one.
+fn missed(met: Option<bool>) -> &'static str {
+    if met == Some(false) {
         "  missed"
     } else {
         ""
@@ -159,77 +179,4 @@ fn verdict(row: &Row) -> &'static str {
 /// A number to so many places, or a dash where there is none.
 fn number(value: Option<f64>, places: usize) -> String {
     value.map_or("-".to_string(), |value| format!("{value:.places$}"))
-}
-
-#[cfg(test)]
-mod tests {
-    use super::*;
-
-    fn row(name: &str, vector_bytes: Option<usize>, goal: Option<Goal>) -> Row {
-        Row {
-            record: Record {
-                name: name.to_string(),
-                vector_bytes,
-                archive: 30.0,
-                copy: Some(3.0),
-                strided: None,
-            },
-            kind: String::new(),
-            second: Some(99.96),
-            long: false,
-            room: None,
-            goal,
-        }
-    }
-
-    fn text(rows: &[Row]) -> String {
-        let effort = Effort {
-            rounds: 2,
-            batches: 3,
-            long_rounds: 1,
-        };
-        Table { rows, effort }.to_string()
-    }
-
-    #[test]
-    fn words_long_buffers_and_tiles_have_their_tables() {
-        let cliff = Row {
-            room: Some(4.0),
-            ..row("load, inside", Some(256), Some(Goal::Ratio(5.0)))
-        };
-        let long = Row {
-            long: true,
-            room: Some(25.0),
-            ..row("load, long", Some(64), None)
-        };
-        let rows = [
-            row("load", Some(16), Some(Goal::Ratio(12.0))),
-            long,
-            cliff,
-            row("take", None, Some(Goal::Nanoseconds(2000.0))),
-        ];
-        let expected = "\
-nanoseconds per call, least of 2 rounds of 3 batches
-operation    length   archive    second      copy   strided    /copy /strided    /room  goal
-load             16      30.0     100.0       3.0         -    10.00        -        -  12.0
-load, inside    256      30.0     100.0       3.0         -    10.00        -     7.50   5.0  missed
-long buffers: close is the same call in buffers for its own vectors
-operation  length   archive    second     close   /close
-load, long     64      30.0     100.0      25.0     1.20
-tiles: putting the held ones back (copy) is in the other times
-operation   archive    second      copy     goal
-take           30.0     100.0       3.0   2000.0
-2 goals met, 1 missed
-";
-        assert_eq!(text(&rows), expected);
-    }
-
-    #[test]
-    fn a_table_without_rows_is_left_out() {
-        let printed = text(&[row("load", Some(16), None)]);
-        assert!(!printed.contains("tiles"));
-        assert!(printed.ends_with("0 goals met, 0 missed\n"));
-        let printed = text(&[row("take", None, None)]);
-        assert!(!printed.contains("strided"));
-    }
 }
