@@ -5,8 +5,9 @@
 # shows that each deliberately wrong second program is noticed.
 #   tests/compare.sh [--seed S] [--count N]
 # Unless N says otherwise there are 1,000,000 cases of all words, among which every encoding gets every answer that it
-# can get at every vector length in buffers for every one that is not below it; then 310,000 of the words of request 1
-# and 340,000 of those of request 2, so that of each more than 200,000 are done.
+# can get at every vector length in buffers for every one that is not below it, and every one with a predicate is done
+# on rows under every kind of whole predicate byte and block of eight bytes that its element size can have; then 310,000
+# of the words of request 1 and 340,000 of those of request 2, so that of each more than 200,000 are done.
 # Build first: rt staticlib sme_move, then cargo build --release --manifest-path rust/Cargo.toml
 set -euo pipefail
 cd "$(dirname "$0")/.."

@@ -3,6 +3,7 @@
 use crate::accesses::Accesses;
 use crate::case::{Case, Outcome};
 use crate::pairs::PAIRS;
+use crate::paths::Paths;
 use crate::rows::Drawn;
 use crate::situations::Situations;
 use crate::table::Table;
@@ -25,6 +26,7 @@ pub struct Counts {
     table: Table,
     situations: Situations,
     accesses: Accesses,
+    paths: Paths,
 }
 
 /// Counts of cases that are drawn from all rows.
@@ -43,6 +45,7 @@ impl Counts {
             table: Table::new(drawn),
             situations: Situations::new(drawn),
             accesses: Accesses::default(),
+            paths: Paths::new(drawn),
         }
     }
 
@@ -53,6 +56,7 @@ impl Counts {
         let view = View::new(case, outcome);
         self.situations.add(&view);
         self.accesses.add(&view);
+        self.paths.add(&view);
     }
 
     /// Takes the counts of other cases in.
@@ -61,6 +65,7 @@ impl Counts {
         self.table.merge(other.table);
         self.situations.merge(other.situations);
         self.accesses.merge(&other.accesses);
+        self.paths.merge(&other.paths);
     }
 
     /// How many cases there were.
@@ -86,6 +91,7 @@ impl Counts {
         if self.cases >= enough(self.drawn) {
             complaints.extend(self.table.missing());
             complaints.extend(self.situations.missing());
+            complaints.extend(self.paths.missing());
         }
         complaints
     }
@@ -110,6 +116,6 @@ impl Display for Counts {
         if self.drawn.has_access() {
             writeln!(f, "{}", self.accesses)?;
         }
-        Ok(())
+        write!(f, "{}", self.paths)
     }
 }

@@ -16,6 +16,7 @@ pub mod generate;
 pub mod names;
 pub mod outcomes;
 pub mod pairs;
+pub mod paths;
 pub mod rows;
 pub mod run;
 pub mod situations;

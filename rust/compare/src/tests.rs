@@ -8,8 +8,10 @@ use crate::exhaustive::progress;
 use crate::generate::generate;
 use crate::names::{self, is_access, Named};
 use crate::pairs::{Pair, PAIRS};
+use crate::paths::bits::{alike, Bits, BLOCK};
 use crate::rows::{encoding, Drawn, NO_ENCODING, OF_DOCUMENT, TABLE};
 use crate::table::{Table, NAMES};
+use crate::view::View;
 use crate::worked;
 use second::execute::Mistake;
 use second::inputs::random::Random;
@@ -228,6 +230,42 @@ fn missing_long_buffers_are_told() {
         told.lines().all(|line| of_largest(line) || of_beyond(line)),
         "{told}"
     );
+}
+
+/// Whether the governing predicate has a block of mixed bytes alone.
+fn has_mixed_block(case: &Case) -> bool {
+    let outcome = Outcome::default();
+    let view = View::new(case, &outcome);
+    let operation = view.operation.filter(|_| view.predicated());
+    operation.is_some_and(|own| {
+        let m = usize::from(own.element_bytes);
+        let mut blocks = view.predicate().chunks_exact(BLOCK);
+        blocks.any(|block| alike(block, m) == Some(Bits::Mixed))
+    })
+}
+
+/// A run that never had a block of mixed bytes alone is told so, of each size
+/// that can have one, and of nothing else.
+#[test]
+fn missing_blocks_are_told() {
+    let drawn = Drawn::Request1;
+    let mut random = Random::new(11);
+    let mut case = Case::empty();
+    let mut outcome = Outcome::default();
+    let mut counts = Counts::new(drawn);
+    while counts.cases() < enough(drawn) {
+        generate(&mut random, &mut case, drawn);
+        if !has_mixed_block(&case) {
+            outcome.run_second(&case, Mistake::None);
+            counts.add(&case, &outcome);
+        }
+    }
+    let told = counts.check().expect_err("a kind of block is missing");
+    let line = |m| format!("never: done, move from tile, m={m}, horizontal, a block of mixed");
+    assert_eq!(told.lines().count(), 3, "{told}");
+    for m in [1, 2, 4] {
+        assert!(told.contains(&line(m)), "{told}");
+    }
 }
 
 /// Half of all cases have buffers for their own vectors, and in each half

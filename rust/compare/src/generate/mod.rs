@@ -10,6 +10,7 @@ mod memory;
 pub mod predicates;
 pub mod registers;
 pub mod settings;
+mod whole_bytes;
 mod words;
 
 use crate::case::Case;

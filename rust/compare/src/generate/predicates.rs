@@ -1,17 +1,21 @@
 //! The governing predicate of a case.
 
+use super::whole_bytes;
 use crate::beyond::Beyond;
 use crate::case::Case;
 use second::flat::Flat;
 use second::inputs::random::Random;
 
+/// The bytes that elements can have.
+const SIZES: [usize; 5] = [1, 2, 4, 8, 16];
+
 /// Sets the bits of the operation's predicate register to one of several
-/// patterns. The other registers keep their random bits, so that a wrong
-/// register is noticed.
+/// patterns, many of which have whole bytes set or clear. The other registers
+/// keep their random bits, so that a wrong register is noticed.
 pub fn set(random: &mut Random, case: &mut Case, operation: &Flat) {
     let m = usize::from(operation.element_bytes.max(1));
     let register = register(case, operation);
-    match random.below(16) {
+    match random.below(22) {
         0 | 1 => register.fill(0xFF),
         2 => register.fill(0),
         3 => single(random, register, m),
@@ -21,7 +25,7 @@ pub fn set(random: &mut Random, case: &mut Case, operation: &Flat) {
             thin(random, register);
             invert(register);
         }
-        7 => unlooked(random, register, m),
+        7 => alike(random, register, m, false),
         8 => {
             register.fill(0xFF);
             set_elements(register, m, |_| false);
@@ -30,6 +34,10 @@ pub fn set(random: &mut Random, case: &mut Case, operation: &Flat) {
         10 => stepped(random, register, m, 2),
         11 => stepped(random, register, m, 8),
         12 | 13 => run(random, register, m),
+        14 => alike(random, register, m, true),
+        15 => starts_only(register, random.pick(&SIZES)),
+        16 | 17 => whole_bytes::bytes(random, register, m),
+        18 | 19 => whole_bytes::blocks(random, register, m),
         _ => random.fill(register),
     }
     set_beyond(random, case);
@@ -81,7 +89,8 @@ fn invert(register: &mut [u8]) {
     }
 }
 
-/// Every element, by the bits at multiples of m and no other.
+/// Every element, by the bits at multiples of m and no other. With the m of
+/// another size these are too few for the operation, or more than it needs.
 fn starts_only(register: &mut [u8], m: usize) {
     register.fill(0);
     set_elements(register, m, |_| true);
@@ -109,10 +118,10 @@ fn run(random: &mut Random, register: &mut [u8], m: usize) {
     set_elements(register, m, |e| (first..first + length).contains(&e));
 }
 
-/// No element, and random bits beside.
-fn unlooked(random: &mut Random, register: &mut [u8], m: usize) {
+/// Every element or none, and random bits beside.
+fn alike(random: &mut Random, register: &mut [u8], m: usize, active: bool) {
     random.fill(register);
-    set_elements(register, m, |_| false);
+    set_elements(register, m, |_| active);
 }
 
 /// What the bits are that are not looked at.
