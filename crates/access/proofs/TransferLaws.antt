@@ -2,7 +2,7 @@
 -- Assumes nothing.
 use Prim.Native.Nat.{ℕ, _+_, _*_, _/_, _<_, _≤_}
 use mathlib.Core.Path.{_≡_, refl, sym, ap, _∙_}
-use mathlib.Core.Bool.{Bool, true, false, cond, _||_}
+use mathlib.Core.Bool.{Bool, true, false, cond}
 use mathlib.Core.List.{List}
 use native.Mathlib.Nat.{zero-add}
 use native.Mathlib.Omega.{arith}
@@ -10,19 +10,18 @@ use lib.ListN.{length, getD}
 use Rattle.settings.specs.Settings.{maxVectorBytes, lengthsOf}
 use Rattle.settings.specs.declared.Settings.{Settings}
 use Rattle.general.specs.Scatter.{scatter, all, onwards}
-use Rattle.general.proofs.ScatterLaws.{scatter-agree, scatter-tests}
+use Rattle.general.proofs.ScatterLaws.{scatter-agree}
 use Rattle.settings.proofs.SettingsLaws.{vector-valid}
 use Rattle.tiles.specs.Element.{bytesOf}
-use Rattle.tiles.specs.declared.element.ElementSize.{ElementSize}
 use Rattle.tiles.specs.declared.span.Span.{Span}
 use Rattle.tiles.specs.Predicate.{active}
-use Rattle.tiles.specs.Span.{spanAt, runFrom}
+use Rattle.tiles.specs.Span.{runFrom}
 use Rattle.tiles.specs.declared.element.ElementSize.the-variants.{Bits128}
 use Rattle.tiles.proofs.LengthLaws.{whole-elements}
 use Rattle.tiles.proofs.SpanLaws.{Spanned, slice-spanned, run-spanned}
-use Rattle.moves.specs.Paired.{Paired, Governed, valueAt, merged}
+use Rattle.moves.specs.Paired.{Paired, Governed, merged}
 use Rattle.moves.proofs.SpanLaws.{spanned-paired, spanned-merged, spanned-replaced}
-use Rattle.moves.proofs.PredicateLaws.{part-within, part-length, part-governs, part-active}
+use Rattle.moves.proofs.PredicateLaws.{part-within, part-governs, part-active}
 use Rattle.moves.proofs.PredicateLaws as predicate
 use Rattle.encoding.specs.Range.{AccessInRange}
 use Rattle.encoding.specs.declared.operation.SliceAccess.{SliceAccess}
@@ -36,25 +35,10 @@ use Rattle.semantics.specs.Execute.{accessAnswer}
 use Rattle.semantics.specs.Steps.{Sized, Performs}
 use Rattle.access.specs.declared.window.Window.{Window}
 use Rattle.access.specs.Window.{Fits, blank, windowRead, windowWritten}
-use Rattle.access.specs.Promise.{elementBits, allSet, Covers, Reaches, Prepares}
+use Rattle.access.specs.Promise.{Covers, Reaches, Prepares}
 use Rattle.access.specs.declared.reach.Prepared.{Prepared}
 use Rattle.access.specs.declared.reach.Reach.the-variants.{Whole, Parts}
-use Rattle.access.proofs.PredicateLaws.{full-active}
 use Rattle.access.proofs.WindowLaws.{fits-more, window-byte, window-stored}
-
--- ---- where every element is active, a copy is a merge, whatever would become of the others
-pub full-merged : (zeroing : Bool) (p : List ℕ) (size : ElementSize) (to from : Span) (src dst : List ℕ) {d : List ℕ} → Governed to (bytesOf size) p → allSet p (elementBits size) (length p) ≡ true → d ≡ scatter (spanAt to (bytesOf size)) all (valueAt src from (bytesOf size)) (to .count * bytesOf size) dst → d ≡ merged zeroing (active p 0 (bytesOf size)) to from (bytesOf size) src dst
-full-merged zeroing p size to from src dst g full e =
-    let m = bytesOf size in
-    let n = to .count * m in
-    let each : (k : ℕ) → k < n → active p 0 m k ≡ true = λ k w. full-active p size full k (omega (arith, g .bytes)) in
-    e
-    ∙ scatter-agree _ _ all _ (λ (k : ℕ). cond (active p 0 m k) (valueAt src from m k) 0) n dst (λ k w y. (refl, rw (each k w)))
-    ∙ scatter-tests _ all (λ (k : ℕ). zeroing || active p 0 m k) _ n dst (λ k w. rw (each k w) (or-all zeroing))
-  where
-    or-all : (b : Bool) → true ≡ b || true
-    or-all true = refl
-    or-all false = refl
 
 -- ---- the state afterwards
 
@@ -132,9 +116,8 @@ module _ {s : Settings} {x p za memory : List ℕ} {o : SliceAccess} {r : Prepar
   pub part-end : r .predicate + s .«vector_bytes» / 8 ≤ length p
   part-end = part-within s (h .vectors) p (h .p) (o .pg) few (r .predicate) (q .predicate)
 
-  governed : {v : Span} → v .count * m ≡ s .«vector_bytes» → Governed v m part × (0 < length part)
-  governed {v} e =
-      (part-governs s (h .vectors) p (h .p) (o .pg) few (r .predicate) (q .predicate) v m e, rw (part-length s (h .vectors) p (h .p) (o .pg) few (r .predicate) (q .predicate)) (omega (arith, whole-elements Bits128 _ (vector-valid s (h .vectors)) .slices)))
+  governed : (v : Span) → v .count * m ≡ s .«vector_bytes» → Governed v m part
+  governed v = part-governs s (h .vectors) p (h .p) (o .pg) few (r .predicate) (q .predicate) v m
 
   agrees : (k : ℕ) → k < s .«vector_bytes» → active part 0 m k ≡ activeUnder s p (o .pg) (o .slice) k
   agrees k v =
@@ -147,13 +130,13 @@ module _ {s : Settings} {x p za memory : List ℕ} {o : SliceAccess} {r : Prepar
     run-at : Spanned v m (s .«vector_bytes») long (onwards at)
     run-at = rw e (run-spanned s (h .vectors) (o .slice .size) at long fits)
 
-    pub store-paired : Paired v (r .slice) m long (length za) × Governed v m part × (0 < length part)
+    pub store-paired : Paired v (r .slice) m long (length za) × Governed v m part
     store-paired =
-        let g = governed (run-at .bytes) in (spanned-paired run-at slice-at (whole-elements Bits128 _ (vector-valid s (h .vectors)) .longest), g .0, g .1)
+        (spanned-paired run-at slice-at (whole-elements Bits128 _ (vector-valid s (h .vectors)) .longest), governed v (run-at .bytes))
 
-    pub load-paired : Paired (r .slice) v m (length za) long × Governed (r .slice) m part × (0 < length part)
+    pub load-paired : Paired (r .slice) v m (length za) long × Governed (r .slice) m part
     load-paired =
-        let g = governed (slice-at .bytes) in (spanned-paired slice-at run-at (whole-elements Bits128 _ (vector-valid s (h .vectors)) .longest), g .0, g .1)
+        (spanned-paired slice-at run-at (whole-elements Bits128 _ (vector-valid s (h .vectors)) .longest), governed (r .slice) (slice-at .bytes))
 
     -- a store writes the active bytes of the slice, a load those of what it reads, and zero
     stored : (dst : List ℕ) {d : List ℕ} → d ≡ merged false (active part 0 m) v (r .slice) m za dst → d ≡ scatter (onwards at) (activeUnder s p (o .pg) (o .slice)) (λ (k : ℕ). getD za (sliceByte s x (o .slice) k) 0) (s .«vector_bytes») dst

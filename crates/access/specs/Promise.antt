@@ -1,17 +1,12 @@
 -- What the functions of this crate promise.
 -- Assumes nothing.
-use Prim.Native.Nat.{ℕ, zero, suc, _≤_, _<_, _+_, _*_, _/_}
+use Prim.Native.Nat.{ℕ, _≤_, _<_, _+_, _*_, _/_}
 use mathlib.Core.Path.{_≡_}
-use mathlib.Core.Bool.{Bool, true, false, _&&_}
+use mathlib.Core.Bool.{Bool, true, false}
 use mathlib.Core.List.{List}
-use lib.Bits.{bitAnd}
-use lib.Dec.{eqb}
-use lib.ListN.{getD}
 use Rattle.settings.specs.Settings.{strideOf}
 use Rattle.settings.specs.declared.Settings.{Settings}
 use Rattle.tiles.specs.Span.{sliceSpan}
-use Rattle.tiles.specs.declared.element.ElementSize.{ElementSize}
-use Rattle.tiles.specs.declared.element.ElementSize.the-variants.{Bits8, Bits16, Bits32, Bits64, Bits128}
 use Rattle.tiles.specs.declared.slice.TileSlice.{TileSlice}
 use Rattle.encoding.specs.declared.operation.SliceAccess.{SliceAccess}
 use Rattle.encoding.specs.Steps.{accessMove}
@@ -37,19 +32,6 @@ pub record First (on : ℕ → Bool) (from n r : ℕ) : Type 0 where
   pub most : r ≤ n
   pub found : r < n → (from ≤ r) × (on r ≡ true)
   pub passed : (k : ℕ) → from ≤ k → k < r → k < n → on k ≡ false
-
--- the bits of a predicate byte that elements of a size go by
-abbrev pub elementBits : ElementSize → ℕ
-elementBits Bits8 = 0xFF
-elementBits Bits16 = 0x55
-elementBits Bits32 = 0x11
-elementBits Bits64 = 0x01
-elementBits Bits128 = 0x01
-
--- the first n predicate bytes have these bits set
-unfoldable pub allSet : List ℕ → ℕ → ℕ → Bool
-allSet p bits zero = true
-allSet p bits (suc n) = allSet p bits n && eqb (bitAnd (getD p n 0) bits) bits
 
 -- a window has every active byte of a load or store, each at its index of memory
 pub record Covers (s : Settings) (x p : List ℕ) (lm : ℕ) (o : SliceAccess) (w : Window) : Type 0 where

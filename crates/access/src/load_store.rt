@@ -2,7 +2,6 @@
 // (document 01 §5).
 ghost use mathlib.Core.Path.{_≡_};
 ghost use mathlib.Core.Bool.{true, false};
-ghost use Prim.Native.Nat.{_<_};
 ghost use lib.ListN.{length};
 ghost use Rattle.settings.specs.Settings.{maxVectorBytes, lengthsOf};
 ghost use Rattle.tiles.specs.Element.{bytesOf};
@@ -12,7 +11,6 @@ ghost use Rattle.encoding.specs.Range.{AccessInRange};
 ghost use Rattle.semantics.specs.Steps.{Sized};
 ghost use Rattle.access.specs.Window.{Fits, blank, windowRead, windowWritten};
 ghost use Rattle.access.specs.Promise.{sliceAccess, Accesses};
-use crate::predicate::is_full;
 use crate::reach::Reach;
 use crate::reach::prepare;
 use crate::window::Window;
@@ -24,30 +22,6 @@ use tiles::ElementSize;
 use tiles::Span;
 use tiles::TileSlice;
 use tiles::run_from;
-
-// Loads a slice from a vector of memory: at once where every element is active.
-fn load_whole(za: &mut [u8], slice: Span, memory: &[u8], vector: Span, p: &[u8], size: ElementSize)
-    requires { ⌜ Paired slice vector (bytesOf size) (length (now za)) (length (now memory)) × Governed slice (bytesOf size) (now p) × (0 < length (now p)) ⌝ }
-    ensures { λ _. ⌜ now (za .exit) ≡ merged true (active (now (p .entry)) 0 (bytesOf size)) slice vector (bytesOf size) (now (memory .entry)) (now (za .entry)) ⌝ }
-{
-    if is_full(p, size) {
-        moves::copy(za, slice, memory, vector, size);
-    } else {
-        moves::replace(za, slice, memory, vector, p, size);
-    }
-}
-
-// Stores a slice to a vector of memory.
-fn store_whole(memory: &mut [u8], vector: Span, za: &[u8], slice: Span, p: &[u8], size: ElementSize)
-    requires { ⌜ Paired vector slice (bytesOf size) (length (now memory)) (length (now za)) × Governed vector (bytesOf size) (now p) × (0 < length (now p)) ⌝ }
-    ensures { λ _. ⌜ now (memory .exit) ≡ merged false (active (now (p .entry)) 0 (bytesOf size)) vector slice (bytesOf size) (now (za .entry)) (now (memory .entry)) ⌝ }
-{
-    if is_full(p, size) {
-        moves::copy(memory, vector, za, slice, size);
-    } else {
-        moves::merge(memory, vector, za, slice, p, size);
-    }
-}
 
 // Loads a slice of which memory has every active byte, by way of a vector.
 fn load_parts(
@@ -64,7 +38,7 @@ fn load_parts(
 {
     let mut vector = [0u8; Settings::MAX_VECTOR_BYTES as usize];
     read_window(&mut vector, memory, w);
-    moves::replace(za, slice, &vector, run, p, size);
+    moves::replace_partly(za, slice, &vector, run, p, size);
 }
 
 // The same for a store: what it does not write goes back as it was.
@@ -113,9 +87,9 @@ pub fn access(
         Reach::Whole(at) => {
             let vector = run_from(at, settings, size);
             if stores {
-                store_whole(memory, vector, za, span, governing, size);
+                moves::merge(memory, vector, za, span, governing, size);
             } else {
-                load_whole(za, span, memory, vector, governing, size);
+                moves::replace(za, span, memory, vector, governing, size);
             }
             Executed::Done
         }

@@ -7,11 +7,12 @@ use mathlib.Core.List.{[], _∷_}
 use native.Mathlib.Omega.{arith}
 use Rattle.general.specs.Least.{least}
 use Rattle.general.specs.Scatter.{scatter}
+use Rattle.general.specs.Number.{number}
 use Rattle.general.specs.Places.{Idle}
 use Rattle.general.specs.Examples.{places, GeneralExamplesHold}
 
 pub general-examples-hold : GeneralExamplesHold
-unfolding least scatter
+unfolding least scatter number
 general-examples-hold = record {
   three = refl;
   off = refl;
@@ -23,6 +24,7 @@ general-examples-hold = record {
   every = refl;
   cleared = refl;
   counted = refl;
+  numbers = (refl, refl, refl);
   first = refl;
   start = refl;
   last = refl;

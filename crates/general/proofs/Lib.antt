@@ -3,4 +3,5 @@ pub mod BoolLaws
 pub mod DeterminedLaws
 pub mod LeastLaws
 pub mod ScatterLaws
+pub mod NumberLaws
 pub mod PlaceLaws

@@ -9,6 +9,7 @@ use lib.Dec.{eqb, leb}
 use lib.ListN.{getD}
 use Rattle.general.specs.Least.{least, isSome}
 use Rattle.general.specs.Scatter.{all, zeros, onwards}
+use Rattle.general.specs.Number.{number}
 use Rattle.general.specs.Places.{Places, nowhere, written, Idle}
 
 -- the first `count` of places 2, 0, 1 and 1, those on that the list says
@@ -33,6 +34,8 @@ pub record GeneralExamplesHold : Type 0 where
   pub every : map all (0 ∷ 7 ∷ []) ≡ true ∷ true ∷ []
   pub cleared : map zeros (0 ∷ 7 ∷ []) ≡ 0 ∷ 0 ∷ []
   pub counted : map (onwards 3) (0 ∷ 2 ∷ []) ≡ 3 ∷ 5 ∷ []
+  -- bytes 1, 2 and 3 as a number: the first is the lowest, and those behind do not count
+  pub numbers : (number (λ k. k + 1) 3 ≡ 0x030201) × (number (λ k. 255) 2 ≡ 65535) × (number (λ k. 7) 0 ≡ 0)
   -- of 2, 5 and 8 the first; of 0, 1, 2 and so on; the last there is; none below 2, and none at all
   pub first : least (λ k. eqb (k % 3) 2) 9 ≡ some 2
   pub start : least all 4 ≡ some 0

@@ -1,6 +1,8 @@
 pub mod BlockLaws
 mod PartLaws
+mod EightLaws
 mod MaskLaws
 pub mod SpanLaws
 mod GroupLaws
+mod RunLaws
 pub mod PredicateLaws

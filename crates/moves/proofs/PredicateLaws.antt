@@ -1,21 +1,25 @@
 -- The bytes of P that govern a vector, lent as a part of their own: they have its bits.
 -- Assumes nothing.
-use mathlib.Core.Path.{_≡_, _∙_}
+use mathlib.Core.Path.{_≡_, refl}
 use mathlib.Core.Bool.{true}
 use mathlib.Core.List.{List}
-use Prim.Native.Nat.{ℕ, _+_, _*_, _-_, _/_, _<_, _≤_}
-use native.Mathlib.Nat.{zero-add, mul-le-mul-right, add-mul, mul-mod-right, div-mul-le-self}
+use Prim.Native.Nat.{ℕ, _+_, _*_, _/_, _%_, _<_, _≤_}
+use native.Mathlib.Nat.{zero-add, mul-le-mul-right, add-mul, div-mul-le-self}
 use native.Mathlib.Omega.{arith}
-use lib.ListN.{length, take, drop, length-drop}
-use lib.Seq.{length-take-le, getD-take, getD-drop}
+use lib.ListN.{length}
 use Rattle.settings.specs.Settings.{isVectorLength, validVectors, strideOf}
 use Rattle.settings.specs.declared.Settings.{Settings}
-use Rattle.settings.proofs.SettingsLaws.{vector-valid, stride-fits}
+use Rattle.settings.proofs.SettingsLaws.{five-lengths, vector-valid, stride-fits}
 use Rattle.tiles.specs.Predicate.{active}
 use Rattle.tiles.specs.declared.element.ElementSize.the-variants.{Bits8}
 use Rattle.tiles.specs.declared.span.Span.{Span}
 use Rattle.tiles.proofs.LengthLaws.{whole-elements}
 use Rattle.moves.specs.Paired.{Governed}
+use Rattle.moves.proofs.PartLaws.{lent, lent-length, lent-byte}
+
+-- a vector has fewer than eight predicate bytes, or eights of them
+bytes-eights : (B : ℕ) → isVectorLength B ≡ true → 8 ≤ B / 8 → B / 8 % 8 ≡ 0
+bytes-eights = five-lengths (λ B. 8 ≤ B / 8 → B / 8 % 8 ≡ 0) (λ h. absurd (omega arith)) (λ h. absurd (omega arith)) (λ h. refl) (λ h. refl) (λ h. refl)
 
 -- predicate register pg of P, which has 16, from `start` on
 module _ (s : Settings) (laid : validVectors s ≡ true) (p : List ℕ) (long : length p ≡ 16 * (strideOf s / 8)) (pg : ℕ) (few : pg < 16) (start : ℕ) (starts : start ≡ pg * (strideOf s / 8)) where
@@ -38,22 +42,19 @@ module _ (s : Settings) (laid : validVectors s ≡ true) (p : List ℕ) (long : 
 
   -- the part, as code lends it
   abbrev pub part : List ℕ
-  part = take (start + B / 8 - start) (drop start p)
+  part = lent start (B / 8) p
 
-  pub part-length : length part ≡ B / 8
-  part-length =
-      let room : start + B / 8 - start ≤ length (drop start p) = rw (length-drop {A = ℕ} start p) (omega (arith, part-within)) in
-      length-take-le (start + B / 8 - start) (drop start p) room ∙ omega arith
+  part-length : length part ≡ B / 8
+  part-length = lent-length start (B / 8) p part-within
 
   pub part-governs : (v : Span) (m : ℕ) → v .count * m ≡ B → Governed v m part
   part-governs v m e =
       let w = whole-elements Bits8 B valid in
-      let twos : B / 8 ≡ 2 * (B / 16) = omega (arith, w .sixteens) in
-      record { bytes = rw part-length (omega (arith, w .eights)); pairs = rw (part-length, twos) (mul-mod-right 2 (B / 16)) }
+      record { bytes = rw part-length (omega (arith, w .eights)); eights = rw part-length (bytes-eights B valid) }
 
   pub part-active : (m k : ℕ) → k < B → active part 0 m k ≡ active p start m k
   unfolding active
   part-active m k h =
       let i = k / m * m in
-      let below : i / 8 < start + B / 8 - start = omega (arith, div-mul-le-self k m, whole-elements Bits8 B valid .eights) in
-      rw (zero-add (i / 8), getD-take {A = ℕ} (start + B / 8 - start) (drop start p) (i / 8) 0 below, getD-drop {A = ℕ} start p (i / 8) 0)
+      let below : i / 8 < B / 8 = omega (arith, div-mul-le-self k m, whole-elements Bits8 B valid .eights) in
+      rw (zero-add (i / 8), lent-byte start (B / 8) p (i / 8) below)

@@ -1,13 +1,13 @@
 -- Spans as loops go through them, elements that touch, and what leaves write where code knows the places of a vector.
 -- Assumes nothing.
 use mathlib.Core.Path.{_≡_, refl, sym, ap, _∙_}
-use mathlib.Core.Bool.{Bool, true, false, cond}
+use mathlib.Core.Bool.{Bool, true, false, cond, _||_}
 use mathlib.Core.List.{List}
-use Prim.Native.Nat.{ℕ, _+_, _*_, _/_, _%_, _<_, _≤_}
+use Prim.Native.Nat.{ℕ, _+_, _*_, _/_, _<_, _≤_}
 use native.Mathlib.Nat.{div-lt-iff-lt-mul, mod-lt}
 use native.Mathlib.Omega.{arith}
 use lib.ListN.{length, getD}
-use borrow.Author.Tests.{eqb-true, eqb-false, not-true}
+use borrow.Author.Tests.{eqb-true, ltb-true}
 use Rattle.settings.specs.Settings.{maxVectorBytes}
 use Rattle.tiles.specs.Element.{bytesOf}
 use Rattle.tiles.specs.declared.element.ElementSize.{ElementSize}
@@ -16,8 +16,10 @@ use Rattle.tiles.specs.declared.span.Span.{Span}
 use Rattle.general.specs.Scatter.{scatter, all, zeros, onwards}
 use Rattle.general.proofs.BoolLaws.{and-parts}
 use Rattle.general.proofs.ScatterLaws.{getD-scatter-other, scatter-agree, scatter-tests}
+use Rattle.tiles.specs.Predicate.{active}
 use Rattle.tiles.specs.Span.{strided, spanAt}
 use Rattle.tiles.proofs.SpanLaws.{Spanned, block-within, strided-element, strided-run, run-end}
+use Rattle.moves.specs.Eights.{AllActive}
 use Rattle.moves.specs.Paired.{Paired, Governed, areRuns, mergedAsRun, valueAt, merged}
 
 -- an element has bytes, at most 16
@@ -28,13 +30,13 @@ bytesOf-range Bits32 = omega arith
 bytesOf-range Bits64 = omega arith
 bytesOf-range Bits128 = omega arith
 
--- a size of other than 16 bytes is one of at most 8
-bytesOf-half : (s : ElementSize) → (bytesOf s ≡ 16 → ⊥) → bytesOf s ≤ 8
-bytesOf-half Bits8 ne = omega arith
-bytesOf-half Bits16 ne = omega arith
-bytesOf-half Bits32 ne = omega arith
-bytesOf-half Bits64 ne = omega arith
-bytesOf-half Bits128 ne = absurd (ne refl)
+-- a size of fewer than 8 bytes is one of at most 4
+bytesOf-few : (s : ElementSize) → bytesOf s < 8 → bytesOf s ≤ 4
+bytesOf-few Bits8 h = omega arith
+bytesOf-few Bits16 h = omega arith
+bytesOf-few Bits32 h = omega arith
+bytesOf-few Bits64 h = absurd (omega arith)
+bytesOf-few Bits128 h = absurd (omega arith)
 
 -- an element that is read ends within its buffer
 pub reads : {to from : Span} {m ld ls : ℕ} → Paired to from m ld ls → (e : ℕ) → e < to .count → from .start + e * from .step + m ≤ ls
@@ -43,6 +45,20 @@ reads h e w = h .read .1 e (rw (h .same) w)
 -- without zeroing the active elements alone are written
 pub merged-active : (on : ℕ → Bool) (to from : Span) (m : ℕ) (src dst : List ℕ) → merged false on to from m src dst ≡ scatter (spanAt to m) on (valueAt src from m) (to .count * m) dst
 merged-active on to from m src dst = scatter-agree _ _ on _ _ _ dst (λ k w y. (refl, rw y))
+
+-- where every element is active, a copy is a merge, whatever would become of the others
+pub full-merged : (zeroing : Bool) (p : List ℕ) (size : ElementSize) (to from : Span) (src dst : List ℕ) {d : List ℕ} → Governed to (bytesOf size) p → AllActive p size → d ≡ scatter (spanAt to (bytesOf size)) all (valueAt src from (bytesOf size)) (to .count * bytesOf size) dst → d ≡ merged zeroing (active p 0 (bytesOf size)) to from (bytesOf size) src dst
+full-merged zeroing p size to from src dst g full e =
+    let m = bytesOf size in
+    let n = to .count * m in
+    let each : (k : ℕ) → k < n → active p 0 m k ≡ true = λ k w. full k (omega (arith, g .bytes)) in
+    e
+    ∙ scatter-agree _ _ all _ (λ (k : ℕ). cond (active p 0 m k) (valueAt src from m k) 0) n dst (λ k w y. (refl, rw (each k w)))
+    ∙ scatter-tests _ all (λ (k : ℕ). zeroing || active p 0 m k) _ n dst (λ k w. rw (each k w) (or-all zeroing))
+  where
+    or-all : (b : Bool) → true ≡ b || true
+    or-all true = refl
+    or-all false = refl
 
 module _ (start step m : ℕ) (some : 0 < m) (apart : m ≤ step) where
   -- no byte of an earlier element is one of element e
@@ -63,19 +79,19 @@ module _ (start step m : ℕ) (some : 0 < m) (apart : m ≤ step) where
 pub runs-steps : (a b : Span) (m : ℕ) {r : Bool} → r ≡ areRuns a b m → r ≡ true → (a .step ≡ m) × (b .step ≡ m)
 runs-steps a b m e t = let p = and-parts _ _ (sym e ∙ t) in (eqb-true _ _ (p .0), eqb-true _ _ (p .1))
 
-pub merged-run-steps : (a b : Span) (size : ElementSize) {r : Bool} → r ≡ mergedAsRun a b (bytesOf size) → r ≡ true → (a .step ≡ bytesOf size) × (b .step ≡ bytesOf size) × (bytesOf size ≤ 8)
+pub merged-run-steps : (a b : Span) (size : ElementSize) {r : Bool} → r ≡ mergedAsRun a b (bytesOf size) → r ≡ true → (a .step ≡ bytesOf size) × (b .step ≡ bytesOf size) × (bytesOf size ≤ 4)
 merged-run-steps a b size e t =
     let p = and-parts _ _ (sym e ∙ t) in
     let r = runs-steps a b (bytesOf size) refl (p .1) in
-    (r .0, r .1, bytesOf-half size (eqb-false _ _ (not-true _ (p .0))))
+    (r .0, r .1, bytesOf-few size (ltb-true _ _ (p .0)))
 
 module _ {to from : Span} {m ld ls : ℕ} (h : Paired to from m ld ls) (p : to .step ≡ m) (q : from .step ≡ m) where
   pub runs-end : (to .count * m ≤ maxVectorBytes) × (to .start + to .count * m ≤ ld) × (from .start + to .count * m ≤ ls)
   runs-end = (h .short, run-end to m ld (h .written) p, rw (← h .same) (run-end from m ls (h .read) q))
 
   -- the same by the predicate bytes that govern them
-  pub runs-governed : {pred : List ℕ} → Governed to m pred → (length pred % 2 ≡ 0) × (to .start + 8 * length pred ≤ ld) × (from .start + 8 * length pred ≤ ls)
-  runs-governed g = let e = runs-end in (g .pairs, omega (arith, g .bytes), omega (arith, g .bytes))
+  pub runs-governed : {pred : List ℕ} → Governed to m pred → (8 * length pred ≤ maxVectorBytes) × (to .start + 8 * length pred ≤ ld) × (from .start + 8 * length pred ≤ ls)
+  runs-governed g = let e = runs-end in (omega (arith, g .bytes), omega (arith, g .bytes), omega (arith, g .bytes))
 
 module _ (to from : Span) (m : ℕ) (src : List ℕ) (p : to .step ≡ m) (q : from .step ≡ m) where
   -- where they lie

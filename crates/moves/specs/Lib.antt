@@ -1,2 +1,3 @@
+pub mod Eights
 pub mod Paired
 pub mod Mask

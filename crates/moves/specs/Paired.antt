@@ -1,15 +1,16 @@
 -- What the functions of this crate rely on, for elements of m bytes. Only contracts between crates of this project cite these.
 -- Assumes nothing.
 use mathlib.Core.Path.{_≡_}
-use mathlib.Core.Bool.{Bool, cond, _&&_, _||_, not}
+use mathlib.Core.Bool.{Bool, cond, _&&_, _||_}
 use mathlib.Core.List.{List}
 use Prim.Native.Nat.{ℕ, _+_, _*_, _/_, _%_, _^_, _≤_, _<_}
-use lib.Dec.{eqb}
+use lib.Dec.{eqb, ltb}
 use lib.ListN.{length, getD}
 use Rattle.general.specs.Scatter.{scatter}
 use Rattle.settings.specs.Settings.{maxVectorBytes}
 use Rattle.tiles.specs.Span.{spanAt, Within}
 use Rattle.tiles.specs.declared.span.Span.{Span}
+use Rattle.moves.specs.Eights.{InEights}
 
 -- as many elements in one place of a buffer of ld bytes as in another of a buffer of ls, and no more than a vector has
 pub record Paired (to from : Span) (m ld ls : ℕ) : Type 0 where
@@ -18,17 +19,17 @@ pub record Paired (to from : Span) (m ld ls : ℕ) : Type 0 where
   pub written : Within to m ld
   pub read : Within from m ls
 
--- the predicate bytes p are those of a vector with these elements: 16 bytes of a vector have two
+-- the predicate bytes p are those of a vector with these elements
 pub record Governed (to : Span) (m : ℕ) (p : List ℕ) : Type 0 where
   pub bytes : to .count * m ≡ 8 * length p
-  pub pairs : length p % 2 ≡ 0
+  pub eights : InEights p
 
--- the elements of both follow each other without a gap; they are merged so unless they have 16 bytes
+-- the elements of both follow each other without a gap; they are merged so if they have at most 4 bytes
 abbrev pub areRuns : Span → Span → ℕ → Bool
 areRuns a b m = eqb (a .step) m && eqb (b .step) m
 
 abbrev pub mergedAsRun : Span → Span → ℕ → Bool
-mergedAsRun a b m = not (eqb m 16) && areRuns a b m
+mergedAsRun a b m = ltb m 8 && areRuns a b m
 
 -- byte k of the elements of `from`
 abbrev pub valueAt : List ℕ → Span → ℕ → ℕ → ℕ

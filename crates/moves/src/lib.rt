@@ -15,6 +15,7 @@ use crate::apart::take_apart;
 use crate::bytes::clear_bytes;
 use crate::bytes::copy_vector;
 use crate::merge_apart::merge_sized;
+use crate::predicate::is_full;
 use crate::run::merge_run;
 use tiles::ElementSize;
 use tiles::Span;
@@ -23,6 +24,7 @@ mod apart;
 mod bytes;
 mod element;
 mod merge_apart;
+mod predicate;
 mod run;
 
 // Whether the elements of both follow each other without a gap.
@@ -86,6 +88,18 @@ pub fn replace(dst: &mut [u8], to: Span, src: &[u8], from: Span, p: &[u8], size:
     requires { ⌜ Paired to from (bytesOf size) (length (now dst)) (length (now src)) × Governed to (bytesOf size) (now p) ⌝ }
     ensures { λ _. ⌜ now (dst .exit) ≡ merged true (active (now (p .entry)) 0 (bytesOf size)) to from (bytesOf size) (now (src .entry)) (now (dst .entry)) ⌝ }
 {
+    if is_full(p, size) {
+        copy(dst, to, src, from, size);
+    } else {
+        replace_partly(dst, to, src, from, p, size);
+    }
+}
+
+// The same for any predicate, but made for one under which an element is inactive: a run is cleared without asking.
+pub fn replace_partly(dst: &mut [u8], to: Span, src: &[u8], from: Span, p: &[u8], size: ElementSize)
+    requires { ⌜ Paired to from (bytesOf size) (length (now dst)) (length (now src)) × Governed to (bytesOf size) (now p) ⌝ }
+    ensures { λ _. ⌜ now (dst .exit) ≡ merged true (active (now (p .entry)) 0 (bytesOf size)) to from (bytesOf size) (now (src .entry)) (now (dst .entry)) ⌝ }
+{
     if is_merged_run(to, from, size) {
         clear_bytes(dst, to.start, 8 * p.len());
         merge_run(dst, to.start, src, from.start, p, size);
@@ -94,11 +108,11 @@ pub fn replace(dst: &mut [u8], to: Span, src: &[u8], from: Span, p: &[u8], size:
     }
 }
 
-// Whether elements are merged as a run: elements of 16 bytes are faster one by one.
+// Whether elements are merged as a run: elements of 8 and 16 bytes, which have a predicate byte or two each, go one by one.
 fn is_merged_run(a: Span, b: Span, size: ElementSize) -> bool
     ensures { λ r. ⌜ r ≡ mergedAsRun a b (bytesOf size) ⌝ }
 {
-    if size.bytes() == 16 {
+    if 8 <= size.bytes() {
         return false;
     }
     are_runs(a, b, size)

@@ -1,5 +1,5 @@
-// Elements merged that stand apart, by predicate bytes: without zeroing, the elements of one that is zero are passed over, and
-// not written with what they hold.
+// Elements merged that stand apart, or that have 8 or 16 bytes, by predicate bytes: without zeroing, the elements of one that is
+// zero are passed over, and not written with what they hold.
 ghost use mathlib.Core.Path.{_≡_};
 ghost use mathlib.Core.Bool.{_||_, not};
 ghost use Prim.Native.Nat.{_+_, _*_, _%_, _^_, _<_};
@@ -9,6 +9,7 @@ ghost use Rattle.tiles.specs.Element.{bytesOf};
 ghost use Rattle.tiles.specs.Predicate.{active};
 ghost use Rattle.moves.specs.Paired.{Paired, Governed, Grouped, partOf, setIn, merged};
 use crate::element::merge_bytes;
+use crate::predicate::is_full;
 use tiles::ElementSize;
 use tiles::Span;
 
@@ -89,7 +90,7 @@ fn merge_apart(
     }
 }
 
-// The same for elements of a size.
+// The same for elements of a size: a copy where every element is active.
 pub(crate) fn merge_sized(
     dst: &mut [u8],
     to: Span,
@@ -102,6 +103,10 @@ pub(crate) fn merge_sized(
     requires { ⌜ Paired to from (bytesOf size) (length (now dst)) (length (now src)) × Governed to (bytesOf size) (now p) ⌝ }
     ensures { λ _. ⌜ now (dst .exit) ≡ merged zeroing (active (now (p .entry)) 0 (bytesOf size)) to from (bytesOf size) (now (src .entry)) (now (dst .entry)) ⌝ }
 {
+    if is_full(p, size) {
+        crate::copy(dst, to, src, from, size);
+        return;
+    }
     match size {
         ElementSize::Bits8 => merge_apart(dst, to, src, from, p, zeroing, 1, 8),
         ElementSize::Bits16 => merge_apart(dst, to, src, from, p, zeroing, 2, 4),

@@ -10,7 +10,7 @@ merge-run-requires : tie.Need-merge-run-requires
 merge-run-requires c κs =
     let runs = merged-run-steps (c .before .before .before .before .before .before .args .to) (c .before .before .before .before .before .before .args .from) (c .before .before .before .before .before .before .args .size) (c .before .before .is-merged-run .ensures) (c .before .if1 .taken) in
     let g = runs-governed (c .before .before .before .before .before .before .pre .0) (runs .0) (runs .1) (c .before .before .before .before .before .before .pre .1) in
-    (runs .2, g .0, g .1, g .2)
+    (runs .2, c .before .before .before .before .before .before .pre .1 .eights, g .0, g .1, g .2)
 
 merge-sized-requires : tie.Need-merge-sized-requires
 merge-sized-requires c κs = rw (c .anew2 .ensures, c .before .anew .ensures) (c .before .before .before .before .before .before .before .before .pre)

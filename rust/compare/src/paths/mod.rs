@@ -1,6 +1,7 @@
 //! Which ways rows were moved under a predicate. A unit may take eight bytes
-//! of it together, or one, where the bits that elements go by are all alike;
-//! a run must lead it to each of these ways with each encoding.
+//! of it together, or one, where the bits that elements go by are all set, all
+//! clear, or mixed in each byte; a run must lead it to each of these ways with
+//! each encoding.
 
 pub mod bits;
 mod taken;

@@ -8,7 +8,8 @@ use super::bits::{alike, can_mix, each, looked_at, Bits, BLOCK};
 pub enum Path {
     /// A predicate under which every element is active, or none.
     Predicate(Bits),
-    /// A block of eight bytes that all are the same, or else none.
+    /// Eight bytes that are all set, all clear or all mixed; none where they
+    /// differ.
     Block(Option<Bits>),
     /// A byte of a block whose bytes differ, or of a predicate that is shorter
     /// than a block.

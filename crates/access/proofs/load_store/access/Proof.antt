@@ -17,12 +17,12 @@ add-end c = omega (arith, part-end (primed (c .before)))
 governing-end : tie.Need-part-governing-end
 governing-end c = part-end (primed (c .before))
 
-store-whole-requires : tie.Need-store-whole-requires
+store-whole-requires : tie.Need-merge-requires
 store-whole-requires c κs =
     let reach = rw (c .before .before .before .before .before .reach .given .1) at (c .before .before .before .before .before .before .before .before .before .prepare .ensures .reach) in
     store-paired (primed (c .before .before .before .before .before .before .before .before .before)) _ _ (reach .1) (c .before .before .before .run-from .ensures)
 
-load-whole-requires : tie.Need-load-whole-requires
+load-whole-requires : tie.Need-replace-requires
 load-whole-requires c κs =
     let reach = rw (c .before .before .before .before .before .reach .given .1) at (c .before .before .before .before .before .before .before .before .before .prepare .ensures .reach) in
     load-paired (primed (c .before .before .before .before .before .before .before .before .before)) _ _ (reach .1) (c .before .before .before .run-from .ensures)
@@ -44,12 +44,12 @@ load-parts-requires c κs =
 returns : tie.Need-returns
 returns c z =
     let reach = rw (c .before .before .before .before .before .before .before .before .reach .given .1) at (c .before .before .before .before .before .before .before .before .before .before .before .before .prepare .ensures .reach) in
-    rw (c .before .before .before .before .before .if1 .taken) (stores-whole (primed (c .before .before .before .before .before .before .before .before .before .before .before .before)) z _ reach (c .before .before .before .before .before .before .run-from .ensures) (c .before .before .store-whole .ensures))
+    rw (c .before .before .before .before .before .if1 .taken) (stores-whole (primed (c .before .before .before .before .before .before .before .before .before .before .before .before)) z _ reach (c .before .before .before .before .before .before .run-from .ensures) (c .before .before .merge .ensures))
 
 returns-2 : tie.Need-returns-2
 returns-2 c z =
     let reach = rw (c .before .before .before .before .before .before .before .before .reach .given .1) at (c .before .before .before .before .before .before .before .before .before .before .before .before .prepare .ensures .reach) in
-    rw (c .before .before .before .before .before .if1 .left) (loads-whole (primed (c .before .before .before .before .before .before .before .before .before .before .before .before)) z _ reach (c .before .before .before .before .before .before .run-from .ensures) (c .before .before .load-whole .ensures))
+    rw (c .before .before .before .before .before .if1 .left) (loads-whole (primed (c .before .before .before .before .before .before .before .before .before .before .before .before)) z _ reach (c .before .before .before .before .before .before .run-from .ensures) (c .before .before .replace .ensures))
 
 returns-3 : tie.Need-returns-3
 returns-3 c z =

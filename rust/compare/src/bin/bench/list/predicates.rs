@@ -88,7 +88,7 @@ fn task(sliced: Sliced, form: Form) -> Task {
         goal: match form.active {
             Active::All if is_move => Some(GOAL_OF_ALL),
             Active::None if is_move => Some(GOAL_OF_NONE),
-            // The goals at the other lengths and sizes are for these alone.
+            // The usual predicates keep the goal that they have at other lengths.
             usual if USUAL.contains(&usual) => task.goal,
             _ => None,
         },
