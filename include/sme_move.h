@@ -48,7 +48,7 @@
 
 /* The version of this header; sme_version tells the archive's, and both as one number can be compared. */
 #define SME_MOVE_VERSION_MAJOR 0
-#define SME_MOVE_VERSION_MINOR 7
+#define SME_MOVE_VERSION_MINOR 8
 #define SME_MOVE_VERSION (65536 * SME_MOVE_VERSION_MAJOR + SME_MOVE_VERSION_MINOR)
 
 #ifdef __cplusplus
@@ -80,8 +80,10 @@ enum sme_answer {
      * stack check is on
      */
     SME_STACK_MISALIGNED = 6,
-    /* a byte of an active element is not in memory; comes with the address of the lowest such element's first such
-     * byte */
+    /*
+     * a byte of an active element is not in memory; comes with the number of the lowest-numbered such element, and the
+     * address of its first such byte
+     */
     SME_OUTSIDE_MEMORY = 7,
     /*
      * encoding: a field is outside its range, or no word has such an operation; taking a tile: the asked element
@@ -208,6 +210,11 @@ enum sme_setting {
 enum sme_result {
     /* the address that SME_OUTSIDE_MEMORY carries, 0 with any other answer */
     SME_RESULT_ADDRESS,
+    /*
+     * the number of the element that the address is of, below B/m, 0 with any other answer: the lowest-numbered active
+     * element that has a byte outside memory
+     */
+    SME_RESULT_ELEMENT,
     /* how many results this header knows */
     SME_RESULT_COUNT
 };
@@ -216,7 +223,7 @@ enum sme_result {
  * The version of the archive, as one number like SME_MOVE_VERSION. An archive has such a function for its own version
  * and for each before it whose hosts it serves, and none for a later one.
  */
-uint32_t sme_version_0_7(void);
+uint32_t sme_version_0_8(void);
 
 /*
  * Executes one instruction word.
@@ -369,7 +376,7 @@ typedef struct sme_held {
 /* The version of the archive that the host is linked with. */
 static inline uint32_t sme_version(void)
 {
-    return sme_version_0_7();
+    return sme_version_0_8();
 }
 
 /* Whether an archive of that version is no older than this header. One that a host is linked with always is. */
@@ -388,7 +395,7 @@ static inline bool sme_version_serves(uint32_t archive)
 __attribute__((retain))
 #endif
 #endif
-__attribute__((used)) static uint32_t (*const sme_version_needed)(void) = sme_version_0_7;
+__attribute__((used)) static uint32_t (*const sme_version_needed)(void) = sme_version_0_8;
 #endif
 
 /*
@@ -528,15 +535,25 @@ static inline uint32_t sme_settings_decode(sme_settings settings, uint32_t word,
     return sme_decode(word, settings.level, fields);
 }
 
-/* sme_execute_word with these settings and buffers; address is always written, and is the first result. */
-static inline uint32_t sme_settings_execute(sme_settings settings, uint32_t word, sme_buffers buffers,
-                                            uint64_t *address)
+/*
+ * sme_execute_word with these settings and buffers; results, an array as of enum sme_result, is always written, as far
+ * as it has places. A host that wants every result lends SME_RESULT_COUNT places.
+ */
+static inline uint32_t sme_settings_execute_results(sme_settings settings, uint32_t word, sme_buffers buffers,
+                                                    uint64_t *results, size_t results_count)
 {
     uint64_t given[SME_SETTING_COUNT];
     sme_settings_give(settings, given);
     return sme_execute_word(given, SME_SETTING_COUNT, buffers.x, buffers.x_count, buffers.z, buffers.z_bytes,
                             buffers.p, buffers.p_bytes, buffers.za, buffers.za_bytes, buffers.memory,
-                            buffers.memory_bytes, address, 1, word);
+                            buffers.memory_bytes, results, results_count, word);
+}
+
+/* The same with the first result alone; address is always written. */
+static inline uint32_t sme_settings_execute(sme_settings settings, uint32_t word, sme_buffers buffers,
+                                            uint64_t *address)
+{
+    return sme_settings_execute_results(settings, word, buffers, address, 1);
 }
 
 /* No held tiles. */

@@ -69,7 +69,8 @@ for mistake in XIn16Bits XIn32Bits XBytesIn16Bits XBytesIn32Bits ZIn16Bits ZIn32
     ZaIn32Bits MemoryLengthIn16Bits MemoryLengthIn32Bits MemoryOffsetIn16Bits MemoryOffsetIn32Bits EndOffsetIn16Bits \
     EndOffsetIn32Bits StoreOffsetIn16Bits StoreOffsetIn32Bits StoreTwiceIn16Bits StoreTwiceIn32Bits MemoryEndIn32Bits LongMemoryRefused \
     LargestMissing LargestMissingIfZero LargestIn16Bits LargestIn32Bits LargestBelowPasses PredicatesClose PredicatesLong \
-    ClearsBeyondZ ClearsBeyondZa ClearsZaFromB; do
+    ClearsBeyondZ ClearsBeyondZa ClearsZaFromB ElementMissing ElementKept ElementWithoutPlace ElementAsByte ElementFromOne \
+    ElementFromOneInColumns ElementFromOneInLongStores ElementAsAddress FirstActiveElement FirstElementOutside; do
     must_notice "$mistake" env WRONG="$mistake" "$wrong/unit"
 done
 
@@ -91,6 +92,13 @@ wrong_header MakeHasTheLongest settings_tests 's/sme_settings_make_within(vector
 wrong_header WithMemoryAddressSetsLevel wrapper_tests 's/settings\.memory_address = address;/& settings.level = SME_MAX_LEVEL;/'
 wrong_header NewIgnoresVectorLength wrapper_tests 's/settings\.vector_bytes = vector_bytes;/settings.vector_bytes = 16, (void)vector_bytes;/'
 wrong_header GivesStreamingAsZa wrapper_tests 's/given\[SME_SETTING_ZA_ON\] = settings\.za_on;/given[SME_SETTING_ZA_ON] = settings.streaming;/'
+exchange='s/SME_RESULT_ADDRESS,/SME_RESULT_ONE,/; s/SME_RESULT_ELEMENT,/SME_RESULT_ADDRESS,/; s/SME_RESULT_ONE,/SME_RESULT_ELEMENT,/'
+wrong_header ExchangesResults wrapper_tests "$exchange"
+wrong_header ExchangesResultsWanted machine "$exchange"
+wrong_header ExecuteResultsLendsOne wrapper_tests 's/results, results_count, word)/results, results_count > 1 ? 1 : results_count, word)/'
+wrong_header ExecuteResultsLendsAll wrapper_tests 's/results, results_count, word)/results, results_count > 0 ? SME_RESULT_COUNT : 0, word)/'
+wrong_header ExecuteLendsTwo wrapper_tests 's/buffers, address, 1)/buffers, address, 2)/'
+wrong_header ExecuteLendsNone wrapper_tests 's/buffers, address, 1)/buffers, address, 0)/'
 wrong_header AnotherText wrapper_tests 's/"the array is off"/"the array is not on"/'
 wrong_header TextOfNoAnswer wrapper_tests 's/"no answer of this version"/"done"/'
 wrong_header ServesAll wrapper_tests 's/archive >= SME_MOVE_VERSION/archive >= SME_MOVE_VERSION || archive > 0/'

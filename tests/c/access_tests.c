@@ -27,15 +27,21 @@ static void expect_done(machine *own, const access *how, uint32_t word, size_t f
     }
     guarded_read_only(&own->z);
     guarded_read_only(how->load ? &own->memory : &own->za);
-    expect(own, word, SME_DONE, 0);
+    expect(own, word, SME_DONE);
 }
 
-static void expect_refused(machine *own, uint32_t word, uint32_t wanted, uint64_t wanted_address)
+static void expect_refused(machine *own, uint32_t word, uint32_t wanted)
 {
     guarded_read_only(&own->z);
     guarded_read_only(&own->za);
     guarded_read_only(&own->memory);
-    expect(own, word, wanted, wanted_address);
+    expect(own, word, wanted);
+}
+
+static void expect_outside(machine *own, uint32_t word, uint64_t address, uint64_t element)
+{
+    want_outside(own, address, element);
+    expect_refused(own, word, SME_OUTSIDE_MEMORY);
 }
 
 /* All elements, every third and the first alone, from an odd address; the offset register is times m, and wraps. */
@@ -73,21 +79,21 @@ static void refused_tests(uint64_t b, uint64_t apart, const access *how)
 {
     machine own = machine_at(b, apart, b, 0x1000);
     own.settings.level = 0;
-    expect_refused(&own, how->word, SME_UNDECODABLE, 0);
+    expect_refused(&own, how->word, SME_UNDECODABLE);
     own = machine_at(b, apart, b, 0x1000);
     own.settings.streaming = own.settings.za_on = false;
-    expect_refused(&own, how->word, SME_STREAMING_OFF, 0);
+    expect_refused(&own, how->word, SME_STREAMING_OFF);
     own = machine_at(b, apart, b, 0x1000);
     own.settings.za_on = false;
-    expect_refused(&own, how->word, SME_ZA_OFF, 0);
+    expect_refused(&own, how->word, SME_ZA_OFF);
     own = machine_at(b, apart, b, 0);
     set_x(&own, 31, 0x1008);
     set_active(&own, 0, how->m, b);
     own.settings = sme_settings_with_stack_check(sme_settings_with_stack_check(own.settings, false), true);
-    expect_refused(&own, how->word | ON_STACK, SME_STACK_MISALIGNED, 0);
+    expect_refused(&own, how->word | ON_STACK, SME_STACK_MISALIGNED);
 }
 
-/* With the stack check off a misaligned stack pointer is a base like any other: done, or 7 with the address. */
+/* With the stack check off a misaligned stack pointer is a base like any other: done, or 7 with address and element. */
 static void unchecked_tests(uint64_t b, uint64_t apart, const access *how)
 {
     machine own = machine_at(b, apart, 8 + b, 0);
@@ -97,7 +103,7 @@ static void unchecked_tests(uint64_t b, uint64_t apart, const access *how)
     own = machine_at(b, apart, b, 0);
     own.settings = sme_settings_with_stack_check(own.settings, false);
     set_x(&own, 31, 0x2001);
-    expect_refused(&own, how->word | ON_STACK, SME_OUTSIDE_MEMORY, 0x2001);
+    expect_outside(&own, how->word | ON_STACK, 0x2001, 0);
 }
 
 /* Answer 7 at the end of memory: it ends after i bytes of the last element, and so carries the address of byte i. */
@@ -106,16 +112,37 @@ static void end_tests(uint64_t b, uint64_t apart, const access *how)
     for (size_t i = 0; i < how->m; i++) {
         size_t inside = b - how->m + i;
         machine own = machine_at(b, apart, inside, 0x1000);
-        expect_refused(&own, how->word, SME_OUTSIDE_MEMORY, 0x1000 + inside);
+        expect_outside(&own, how->word, 0x1000 + inside, b / how->m - 1);
         own = machine_at(b, apart, inside, 0x1000);
         set_inactive(&own, how, b / how->m - 1);
         expect_done(&own, how, how->word, 0);
     }
     machine own = machine_at(b, apart, b, 0xFFF);
-    expect_refused(&own, how->word, SME_OUTSIDE_MEMORY, 0xFFF);
+    expect_outside(&own, how->word, 0xFFF, 0);
     own = machine_at(b, apart, b, 0xFFF);
     set_inactive(&own, how, 0);
     expect_done(&own, how, how->word, SIZE_MAX);
+}
+
+/*
+ * Answer 7 tells of the lowest-numbered active element with a byte outside, for elements in the middle too. Memory ends
+ * within element e, or before it where it is one byte, so that those behind it are outside as well; where e is not active,
+ * the next one is told, from its first byte on, though elements before e are active.
+ */
+static void element_tests(uint64_t b, uint64_t apart, const access *how)
+{
+    for (size_t e = 0; e < b / how->m; e = 2 * e + 1) {
+        size_t inside = e * how->m + how->m / 2;
+        machine own = machine_at(b, apart, inside, 0x1000);
+        expect_outside(&own, how->word, 0x1000 + inside, e);
+        own = machine_at(b, apart, inside, 0x1000);
+        set_inactive(&own, how, e);
+        if (e + 1 < b / how->m) {
+            expect_outside(&own, how->word, 0x1000 + (e + 1) * how->m, e + 1);
+        } else {
+            expect_done(&own, how, how->word, 0);
+        }
+    }
 }
 
 /*
@@ -131,8 +158,8 @@ static void wrap_tests(uint64_t b, uint64_t apart, const access *how)
         machine high = machine_at(b, apart, b, 0 - b + before);
         high.settings.memory_address = 0 - b;
         if (active) {
-            expect_refused(&low, how->word, SME_OUTSIDE_MEMORY, 0 - before);
-            expect_refused(&high, how->word, SME_OUTSIDE_MEMORY, 0);
+            expect_outside(&low, how->word, 0 - before, 0);
+            expect_outside(&high, how->word, 0, b / how->m - 1);
         } else {
             set_inactive(&low, how, 0);
             expect_done(&low, how, how->word, (size_t)0 - before);
@@ -153,6 +180,7 @@ void access_tests(void)
                 refused_tests(b, apart, &how);
                 unchecked_tests(b, apart, &how);
                 end_tests(b, apart, &how);
+                element_tests(b, apart, &how);
                 wrap_tests(b, apart, &how);
             }
         }

@@ -61,7 +61,10 @@ static const uint64_t *numbers_of(const guarded *array)
     return array->length == 0 ? NULL : (const uint64_t *)(const void *)array->bytes;
 }
 
-/* Executes a load with so many settings and so many places for results. */
+/*
+ * Executes a load with so many settings and so many places for results. Element 0 is not active, so that element 1 is the
+ * first that can be outside memory. Places behind the results that there are stay as they are.
+ */
 static void execute_with(uint32_t word, size_t count, size_t places)
 {
     guarded given = given_new(count), results = guarded_new(places * sizeof(uint64_t), 60);
@@ -71,18 +74,18 @@ static void execute_with(uint32_t word, size_t count, size_t places)
     set_x(&own, 0, FIRST);
     set_x(&own, 31, FIRST);
     set_x(&own, 12, 0);
+    own.p.bytes[0] = 0xFE;
     const sme_buffers lent = lend(&own);
     uint64_t *written = places == 0 ? NULL : (uint64_t *)(void *)results.bytes;
     uint32_t answer = sme_execute_word(numbers_of(&given), count, lent.x, lent.x_count, lent.z, lent.z_bytes, lent.p,
                                        lent.p_bytes, lent.za, lent.za_bytes, lent.memory, lent.memory_bytes, written,
                                        places, word);
     CHECK_EQUAL(answer, answer_with(word, count));
-    const uint64_t address = answer == SME_OUTSIDE_MEMORY ? FIRST : 0;
-    if (places > 0) {
-        memcpy(wanted, &address, sizeof address);
-    }
+    const bool outside = answer == SME_OUTSIDE_MEMORY;
+    const uint64_t known[] = {outside ? FIRST + 1 : 0, outside ? 1 : 0};
+    memcpy(wanted, known, (places < 2 ? places : 2) * sizeof known[0]);
     CHECK(guarded_check(&results) && memcmp(results.bytes, wanted, results.length) == 0);
-    const bool moved = memcmp(own.za.bytes, own.memory.bytes, B) == 0;
+    const bool moved = own.za.bytes[0] == 0 && memcmp(own.za.bytes + 1, own.memory.bytes + 1, B - 1) == 0;
     CHECK_EQUAL(moved, answer == SME_DONE);
     CHECK(moved || memcmp(own.za.bytes, own.wanted_za, own.za.length) == 0);
     seen[EXECUTE][answer]++;

@@ -34,6 +34,20 @@ static bool long_buffers_right()
            sme_settings_make_within(32, 16, 3, &made) == SME_BAD_SETTINGS && made.largest_vector_bytes == 16;
 }
 
+// Whether a load gives every result: of two elements of 8 bytes memory has one and a half.
+static bool results_right()
+{
+    const sme_settings settings =
+        sme_settings_with_za(sme_settings_with_streaming(sme_settings_new(16, 1), true), true);
+    std::vector<uint64_t> x(SME_X_COUNT), results(SME_RESULT_COUNT, 9);
+    std::vector<uint8_t> z(SME_Z_BYTES(16)), p(SME_P_BYTES(16), 0xFF), za(SME_ZA_BYTES(16)), memory(12);
+    const sme_buffers buffers = {x.data(), x.size(), z.data(), z.size(), p.data(),
+                                 p.size(), za.data(), za.size(), memory.data(), memory.size()};
+    return sme_settings_execute_results(settings, 0xE0DF0000, buffers, results.data(), results.size()) ==
+               SME_OUTSIDE_MEMORY &&
+           results[SME_RESULT_ADDRESS] == 12 && results[SME_RESULT_ELEMENT] == 1;
+}
+
 int main()
 {
     const sme_settings settings =
@@ -48,5 +62,5 @@ int main()
     const bool right = answer == SME_DONE && address == 0 && za[4 * 16 + 15] == 0 && za[5 * 16] == 7 &&
                        za[5 * 16 + 15] == 7 && za[6 * 16] == 0;
     std::printf("C++: answer %u, %s\n", answer, sme_answer_text(answer));
-    return right && tiles_right() && long_buffers_right() ? 0 : 1;
+    return right && tiles_right() && long_buffers_right() && results_right() ? 0 : 1;
 }

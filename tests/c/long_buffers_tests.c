@@ -35,13 +35,14 @@ static void expect_as_short(machine *own, uint32_t word, uint32_t wanted)
 {
     const size_t b = own->settings.vector_bytes, apart = own->settings.largest_vector_bytes;
     machine other = short_of(own);
-    uint64_t address;
-    CHECK_EQUAL(sme_settings_execute(other.settings, word, lend(&other), &address), wanted);
+    uint32_t answer = sme_settings_execute_results(other.settings, word, lend(&other), own->wanted_results,
+                                                   SME_RESULT_COUNT);
+    CHECK_EQUAL(answer, wanted);
     lay_out(own->wanted_z, apart, other.z.bytes, b, b, 32);
     lay_out(own->wanted_za, apart, other.za.bytes, b, b, b);
     memcpy(own->wanted_memory, other.memory.bytes, other.memory.length);
     machine_free(&other);
-    expect(own, word, wanted, address);
+    expect(own, word, wanted);
 }
 
 /*
@@ -180,10 +181,10 @@ static void length_tests(uint64_t b, uint64_t apart)
         bytes.p = which & 2 ? shorter.p : longer.p;
         bytes.za = which & 4 ? shorter.za : longer.za;
         machine own = machine_with(b, apart, bytes);
-        expect(&own, 0xC0000000, SME_BAD_LENGTHS, 0);
+        expect(&own, 0xC0000000, SME_BAD_LENGTHS);
     }
     machine own = machine_with(b, b, longer);
-    expect(&own, 0xC0000000, SME_BAD_LENGTHS, 0);
+    expect(&own, 0xC0000000, SME_BAD_LENGTHS);
 }
 
 /*
@@ -198,7 +199,7 @@ static void refused_tests(uint64_t b)
         for (uint64_t apart = SME_MIN_VECTOR_BYTES; apart <= SME_MAX_VECTOR_BYTES; apart *= 2) {
             machine own = machine_within(b, apart, 16);
             own.settings.largest_vector_bytes = refused[i];
-            expect(&own, 0xC0000000, SME_BAD_SETTINGS, 0);
+            expect(&own, 0xC0000000, SME_BAD_SETTINGS);
         }
     }
 }

@@ -33,6 +33,7 @@ machine machine_with(uint64_t vector_bytes, uint64_t largest_vector_bytes, lengt
     made.wanted_z = copy_of(&made.z);
     made.wanted_za = copy_of(&made.za);
     made.wanted_memory = copy_of(&made.memory);
+    memset(made.wanted_results, 0, sizeof made.wanted_results);
     return made;
 }
 
@@ -63,6 +64,12 @@ void set_active(machine *own, size_t predicate, size_t element_bytes, size_t ste
     }
 }
 
+void want_outside(machine *own, uint64_t address, uint64_t element)
+{
+    own->wanted_results[SME_RESULT_ADDRESS] = address;
+    own->wanted_results[SME_RESULT_ELEMENT] = element;
+}
+
 sme_buffers lend(const machine *own)
 {
     sme_buffers buffers;
@@ -91,42 +98,51 @@ void machine_free(machine *own)
     free(own->wanted_memory);
 }
 
-void expect(machine *own, uint32_t word, uint32_t wanted, uint64_t wanted_address)
+void expect(machine *own, uint32_t word, uint32_t wanted)
 {
-    expect_lent(own, lend(own), word, wanted, wanted_address);
+    expect_lent(own, lend(own), word, wanted);
 }
 
 /*
- * Executes by the wrapper that takes settings or, in the run of the tests in which buffers touch the page behind them, by
- * the one of before version 0.5, which cannot switch the stack check off and has no longer buffers.
+ * How many results are asked for: all or, in the run of the tests in which buffers touch the page behind them, one, as by
+ * hosts of before version 0.5, which cannot switch the stack check off and have no longer buffers.
  */
-static uint32_t execute(const machine *own, sme_buffers lent, uint32_t word, uint64_t *address)
+static size_t places_for(const sme_settings *settings)
 {
-    const sme_settings *settings = &own->settings;
-    if (guarded_touch_front || settings->stack_check_off || settings->largest_vector_bytes != settings->vector_bytes) {
-        return sme_settings_execute(*settings, word, lent, address);
+    const bool old = !guarded_touch_front && !settings->stack_check_off &&
+                     settings->largest_vector_bytes == settings->vector_bytes;
+    return old ? 1 : SME_RESULT_COUNT;
+}
+
+/* Executes by the wrapper that gives so many results. */
+static uint32_t execute(const sme_settings *settings, sme_buffers lent, uint32_t word, uint64_t *results, size_t places)
+{
+    if (places > 1) {
+        return sme_settings_execute_results(*settings, word, lent, results, places);
     }
     return sme_execute(settings->vector_bytes, settings->level, settings->streaming, settings->za_on,
                        settings->memory_address, word, lent.x, lent.x_count, lent.z, lent.z_bytes, lent.p, lent.p_bytes,
-                       lent.za, lent.za_bytes, lent.memory, lent.memory_bytes, address);
+                       lent.za, lent.za_bytes, lent.memory, lent.memory_bytes, results);
 }
 
-void expect_lent(machine *own, sme_buffers lent, uint32_t word, uint32_t wanted, uint64_t wanted_address)
+void expect_lent(machine *own, sme_buffers lent, uint32_t word, uint32_t wanted)
 {
-    guarded result = guarded_new(sizeof(uint64_t), 33);
+    const size_t places = places_for(&own->settings);
+    guarded given = guarded_new(places * sizeof(uint64_t), 33);
+    uint64_t *results = (uint64_t *)(void *)given.bytes;
     guarded_read_only(&own->x);
     guarded_read_only(&own->p);
-    uint32_t answer = execute(own, lent, word, (uint64_t *)(void *)result.bytes);
-    uint64_t address;
-    memcpy(&address, result.bytes, sizeof address);
+    uint32_t answer = execute(&own->settings, lent, word, results, places);
     CHECK_EQUAL(answer, wanted);
-    CHECK_EQUAL(address, wanted_address);
+    for (size_t i = 0; i < places; i++) {
+        CHECK_EQUAL(results[i], own->wanted_results[i]);
+    }
     CHECK(guarded_check(&own->z) && guarded_check(&own->za) && guarded_check(&own->memory));
-    CHECK(guarded_check(&result));
+    CHECK(guarded_check(&given));
     CHECK(memcmp(own->z.bytes, own->wanted_z, own->z.length) == 0);
     CHECK(memcmp(own->za.bytes, own->wanted_za, own->za.length) == 0);
     CHECK(memcmp(own->memory.bytes, own->wanted_memory, own->memory.length) == 0);
     seen[EXECUTE][answer]++;
-    guarded_free(&result);
+    guarded_free(&given);
     machine_free(own);
 }

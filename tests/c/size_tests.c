@@ -32,7 +32,7 @@ static void length_tests(uint64_t b)
         sme_buffers lent = lend(&own);
         size_t *each[] = {&lent.x_count, &lent.z_bytes, &lent.p_bytes, &lent.za_bytes};
         *each[i / 16] += more[i / 4 % 4];
-        expect_lent(&own, lent, words[i % 4], SME_BAD_LENGTHS, 0);
+        expect_lent(&own, lent, words[i % 4], SME_BAD_LENGTHS);
     }
     guarded_behind = 0;
 }
@@ -53,9 +53,9 @@ static sme_buffers lend_far(const machine *own, const sparse *memory)
 }
 
 /* Executes, and holds the windows of memory to what is wanted. */
-static void expect_far(machine *own, sparse *memory, uint32_t word, uint32_t wanted, uint64_t wanted_address)
+static void expect_far(machine *own, sparse *memory, uint32_t word, uint32_t wanted)
 {
-    expect_lent(own, lend_far(own, memory), word, wanted, wanted_address);
+    expect_lent(own, lend_far(own, memory), word, wanted);
     CHECK(sparse_check(memory));
     sparse_free(memory);
 }
@@ -80,16 +80,17 @@ static void expect_far_done(uint64_t b, const access *how, uint64_t address, siz
             }
         }
     }
-    expect_far(&own, &memory, how->word, SME_DONE, 0);
+    expect_far(&own, &memory, how->word, SME_DONE);
 }
 
-/* An access that begins in memory and ends behind it changes nothing, and tells of the first byte behind. */
+/* An access that begins in memory and ends behind it changes nothing, and tells of the first byte behind and its element. */
 static void expect_far_outside(uint64_t b, const access *how, size_t first)
 {
     machine own = machine_at(b, b, 0, START + first);
     own.settings.memory_address = START;
     sparse memory = memory_at(first);
-    expect_far(&own, &memory, how->word, SME_OUTSIDE_MEMORY, START + FAR_BYTES);
+    want_outside(&own, START + FAR_BYTES, (FAR_BYTES - first) / how->m);
+    expect_far(&own, &memory, how->word, SME_OUTSIDE_MEMORY);
 }
 
 /* Memory may end at 2^64, and not one byte above, of which the lowest 32 bits of its length know nothing. */
@@ -99,7 +100,7 @@ static void end_tests(uint64_t b, const access *how)
     machine own = machine_at(b, b, 0, UINT64_C(0) - FAR_BYTES + 1);
     own.settings.memory_address = UINT64_C(0) - FAR_BYTES + 1;
     sparse memory = memory_at(0);
-    expect_far(&own, &memory, how->word, SME_BAD_LENGTHS, 0);
+    expect_far(&own, &memory, how->word, SME_BAD_LENGTHS);
 }
 
 /*

@@ -1,8 +1,9 @@
 /*
  * What the header itself does: settings as a record, each item changed from every state of the others, and as an array;
- * its version beside the archive's; and the words of each answer.
+ * as many results as are asked for; its version beside the archive's; and the words of each answer.
  */
 #include "check.h"
+#include "machine.h"
 #include "sme_move.h"
 
 #include <string.h>
@@ -90,6 +91,48 @@ static void give_tests(void)
     }
 }
 
+/* Places for results, one more than there are, and what stands in them before a call. */
+enum { PLACES = SME_RESULT_COUNT + 1, UNWRITTEN = 77 };
+
+/* The first places are written with these results, and the others stay. */
+static void expect_results(const uint64_t found[PLACES], size_t places, uint64_t address, uint64_t element)
+{
+    CHECK_EQUAL(found[SME_RESULT_ADDRESS], places > SME_RESULT_ADDRESS ? address : UNWRITTEN);
+    CHECK_EQUAL(found[SME_RESULT_ELEMENT], places > SME_RESULT_ELEMENT ? element : UNWRITTEN);
+    CHECK_EQUAL(found[SME_RESULT_COUNT], UNWRITTEN);
+}
+
+/* Executes by the wrapper that lends so many places, and by the one that lends one. */
+static void execute_by_each(const machine *own, uint32_t word, uint32_t wanted, uint64_t address, uint64_t element)
+{
+    for (size_t places = 0; places <= PLACES; places++) {
+        uint64_t found[PLACES] = {UNWRITTEN, UNWRITTEN, UNWRITTEN};
+        CHECK_EQUAL(sme_settings_execute_results(own->settings, word, lend(own), found, places), wanted);
+        expect_results(found, places, address, element);
+    }
+    uint64_t found[PLACES] = {UNWRITTEN, UNWRITTEN, UNWRITTEN};
+    CHECK_EQUAL(sme_settings_execute(own->settings, word, lend(own), found), wanted);
+    expect_results(found, 1, address, element);
+}
+
+/*
+ * A load of 4-byte elements by registers 1 and 2 with memory for two and a half of them: refused for element 2 or, where
+ * that is not active, for element 3; and with the array off for no element.
+ */
+static void results_tests(void)
+{
+    const uint32_t load = 0xE0820020;
+    machine own = machine_new(16, 10);
+    set_x(&own, 1, 0x1000);
+    set_x(&own, 2, 0);
+    execute_by_each(&own, load, SME_OUTSIDE_MEMORY, 0x100A, 2);
+    own.p.bytes[1] = 0x10;
+    execute_by_each(&own, load, SME_OUTSIDE_MEMORY, 0x100C, 3);
+    own.settings.za_on = false;
+    execute_by_each(&own, load, SME_ZA_OFF, 0, 0);
+    machine_free(&own);
+}
+
 /* The archive's version is the header's. The one before does not serve it; the next, and the next major one, do. */
 static void version_tests(void)
 {
@@ -145,6 +188,7 @@ void wrapper_tests(void)
     new_tests();
     with_tests();
     give_tests();
+    results_tests();
     version_tests();
     text_tests();
 }

@@ -17,11 +17,12 @@ use Rattle.tiles.specs.Element.{bytesOf}
 use Rattle.tiles.specs.declared.element.ElementSize.{ElementSize}
 use Rattle.tiles.specs.declared.element.ElementSize.the-variants.{Bits8, Bits16, Bits32, Bits64, Bits128}
 use Rattle.encoding.specs.declared.operation.SliceAccess.{SliceAccess}
+use Rattle.semantics.specs.declared.answer.Fault.{Fault}
 use Rattle.semantics.specs.declared.answer.Refusal.the-variants.{StackMisaligned, OutsideMemory}
 use Rattle.semantics.specs.declared.answer.Executed.the-variants.{Done, Refused}
-use Rattle.semantics.specs.Access.{addressAt, addressOf, inMemory}
+use Rattle.semantics.specs.Access.{addressAt, addressOf, elementOf, inMemory}
 use Rattle.semantics.specs.Effect.{memoryByte}
-use Rattle.semantics.specs.Execute.{accessActive, faulting, stackBad, accessAnswer}
+use Rattle.semantics.specs.Execute.{accessActive, faulting, faultAt, stackBad, accessAnswer}
 use Rattle.access.specs.declared.reach.Reach.the-variants.{Whole, Parts}
 use Rattle.access.specs.declared.window.Window.{Window}
 use Rattle.access.specs.Window.{covered, Windowed}
@@ -71,7 +72,7 @@ module _ (s : Settings) (x p : List ℕ) (lm : ℕ) (o : SliceAccess) where
   unfolding accessAnswer
   stack-refused e = rw e
 
-  fault-refused : (k : ℕ) → stackBad s x p lm o ≡ false → least (faulting s x p lm o) (s .«vector_bytes») ≡ some k → Refused (OutsideMemory (addressOf x o k)) ≡ accessAnswer s x p lm o
+  fault-refused : (k : ℕ) → stackBad s x p lm o ≡ false → least (faulting s x p lm o) (s .«vector_bytes») ≡ some k → Refused (OutsideMemory (faultAt s x p lm o k)) ≡ accessAnswer s x p lm o
   unfolding accessAnswer
   fault-refused k e q = rw (e, q)
 
@@ -107,9 +108,9 @@ module _ (s : Settings) (x p : List ℕ) (lm : ℕ) (o : SliceAccess) where
       faults =
           first-agree _ (faulting s x p lm o) 0 B r (λ k v. ap (λ (b : Bool). accessActive s x p lm o k && not b) (sym (h .inside k v) ∙ sym (index-inside k))) first
 
-      pub reaches-fault : r < B → (address : ℕ) → address ≡ (start + r) % 2 ^ 64 → Refused (OutsideMemory address) ≡ accessAnswer s x p lm o
-      reaches-fault below address e =
-          ap (λ (i : ℕ). Refused (OutsideMemory i)) (e ∙ addresses r) ∙ fault-refused r stack (first-some _ B r faults below)
+      pub reaches-fault : r < B → (f : Fault) → f .address ≡ (start + r) % 2 ^ 64 → f .element ≡ elementOf o r → Refused (OutsideMemory f) ≡ accessAnswer s x p lm o
+      reaches-fault below f e q =
+          ap (λ (g : Fault). Refused (OutsideMemory g)) (λ i. record { address = (e ∙ addresses r) i; element = q i }) ∙ fault-refused r stack (first-some _ B r faults below)
 
       covered-byte : (k : ℕ) → k < B → covered w k ≡ true → memoryByte s x o k ≡ (at + k) % 2 ^ 64
       covered-byte k v c = index-byte k (ltb-true _ lm (h .inside k v ∙ c))

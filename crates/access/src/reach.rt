@@ -16,11 +16,13 @@ use crate::address::first_address;
 use crate::predicate::first_active;
 use crate::window::Window;
 use crate::window::window_of;
+use semantics::Fault;
 use semantics::Refusal;
 use settings::Settings;
 use tiles::ElementSize;
 use tiles::Span;
 use tiles::TileSlice;
+use tiles::elements_in;
 use tiles::predicate_start;
 use tiles::slice_span;
 
@@ -109,7 +111,9 @@ fn find_reach(
     let fault = first_fault(window, p, pbase, size, n);
     if fault < n {
         let address = std::num::wrapping_add_u64(start, fault as u64);
-        return Reach::Refused(Refusal::OutsideMemory(address));
+        // As many whole elements as there are before the byte: the number of its own.
+        let element = elements_in(fault, size) as u64;
+        return Reach::Refused(Refusal::OutsideMemory(Fault { address, element }));
     }
     Reach::Parts(window)
 }

@@ -22,7 +22,7 @@ long-buffers-hold =
     record {
       moves = record { row = refl; column = refl; single = λ w. rw (mod-one (w % 2 ^ 32 + 0)) refl; taken = refl; rowTaken = refl; rowRead = refl };
       groups = record { four = refl; two = refl; again = refl; twoRead = refl; fourTaken = refl };
-      accesses = record { active = refl; none = refl; all = refl; some = refl; fits = refl; load = refl; wideStore = refl; wideLoad = refl };
+      accesses = record { active = refl; none = refl; all = refl; some = refl; element = refl; fits = refl; load = refl; wideStore = refl; wideLoad = refl };
       answers = record { lengths = refl; largest = refl; below = refl };
       done = refl;
     }

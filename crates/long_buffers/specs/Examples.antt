@@ -15,7 +15,7 @@ use Rattle.semantics.specs.State.{State, stateOf}
 use Rattle.semantics.specs.Answer.{executedNumber}
 use Rattle.semantics.specs.Execute.{executeOf}
 use Rattle.semantics.specs.Run.{runOf}
-use Rattle.semantics.specs.ExampleBuffers.{alternate, vectorIn, settingsWithin, zAt, zaAt, memoryOf, stateAt, xWith, ones, Seen, seen, vectors, doneWith, refusedWith}
+use Rattle.semantics.specs.ExampleBuffers.{alternate, vectorIn, settingsWithin, zAt, zaAt, memoryOf, stateAt, xWith, ones, Seen, seen, vectors, doneWith, refusedWith, outsideWith}
 use Rattle.long_buffers.specs.Within.{B, S, AgreeWithin}
 
 -- a word executed with vectors of B bytes in the buffers for S, with n bytes of memory at address 0
@@ -89,12 +89,14 @@ xAtTop = set (set (xWith 12 19) 1 (2 ^ 64 - 8)) 2 4
 
 pub record AccessesWithin : Type 0 where
   -- 9: E03F03E0, stack pointer 1008 hex: with an active element 6, with none done and nothing written; the bits beyond 16 are all set and do not count
-  pub active : executedWithin 16 32 0xE03F03E0 8 (xWith 31 0x1008) (governedBy 0 0x80) ≡ refusedWith 32 8 6 0
+  pub active : executedWithin 16 32 0xE03F03E0 8 (xWith 31 0x1008) (governedBy 0 0x80) ≡ refusedWith 32 8 6
   pub none : executedWithin 16 32 0xE03F03E0 8 (xWith 31 0x1008) (governedBy 0 0) ≡ doneWith (zAt 32) (zaAt 32) (memoryOf 8)
-  -- 10: E0220020, X1 = 2^64 - 8, X2 = 4, memory address 0, length 64. All active: 7, address FFFFFFFFFFFFFFFC. Elements 4 to 15 only: done, bytes 0 to 11 written;
+  -- 10: E0220020, X1 = 2^64 - 8, X2 = 4, memory address 0, length 64. All active: 7, address FFFFFFFFFFFFFFFC, element 0 (request 6). Elements 4 to 15 only: done, bytes 0 to 11 written;
   -- with W12 = 19 these are of row 3
-  pub all : executedWithin 16 32 0xE0220020 64 xAtTop (ones 32) ≡ refusedWith 32 64 7 0xFFFFFFFFFFFFFFFC
+  pub all : executedWithin 16 32 0xE0220020 64 xAtTop (ones 32) ≡ outsideWith 32 64 0xFFFFFFFFFFFFFFFC 0
   pub some : executedWithin 16 32 0xE0220020 64 xAtTop (governedBy 0xF0 0xFF) ≡ doneWith (zAt 32) (zaAt 32) (drop 4 (zaPart 16 32 3) ++ drop 12 (memoryOf 64))
+  -- E0820020, a load with m = 4 (request 2), and 10 bytes of memory: element 2 has its bytes 2 and 3 outside
+  pub element : executedWithin 16 32 0xE0820020 10 (set (set (xWith 12 19) 1 0) 2 0) (ones 32) ≡ outsideWith 32 10 10 2
   -- memory of 16 bytes is enough, though vectors start 32 apart
   pub fits : executedWithin 16 32 0xE0220020 16 (set (set (xWith 12 19) 1 0) 2 0) (ones 32) ≡ doneWith (zAt 32) (zaAt 32) (zaPart 16 32 3)
   -- E0020020, the load of that row (request 2), with alternating bits: the inactive elements become zero, the bytes beyond 16 stay

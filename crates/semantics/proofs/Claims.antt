@@ -22,7 +22,7 @@ use Rattle.semantics.specs.Operations.{Means}
 use Rattle.semantics.specs.Reasons.{AnswersExactly}
 use Rattle.semantics.proofs.OperationLaws.{effect-means}
 use Rattle.semantics.proofs.SettleLaws.{means-settle}
-use Rattle.semantics.proofs.ReasonLaws.{given-exactly, address-told, refusal-keeps}
+use Rattle.semantics.proofs.ReasonLaws.{given-exactly, fault-told, refusal-keeps}
 use Rattle.encoding.proofs.RangeLaws.{decoded-in-range}
 use Rattle.semantics.proofs.ExecuteLaws.{refused-not-done, Ends, does, stays, ends, does-operation, does-answer}
 use Rattle.semantics.proofs.ExecuteLaws as laws
@@ -64,7 +64,7 @@ pub operations-settle : OperationsSettle
 operations-settle s w t t′ o d k m = means-settle s t t′ (executeOf s w t .state) k (execution-keeps s w t) o m (operations-mean s w t o d)
 
 pub answers-exactly : AnswersExactly
-answers-exactly s w t = (given-exactly s w t, address-told s w t, refusal-keeps s w t)
+answers-exactly s w t = (given-exactly s w t, fault-told s w t, refusal-keeps s w t)
 
 -- ---- the switch of the stack check
 

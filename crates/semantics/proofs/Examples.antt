@@ -59,4 +59,16 @@ examples-hold =
             refused = record { low = refl; streaming = refl; za = refl; stack = refl; outside = refl };
             unchecked = record { loads = refl; elsewhere = refl; on = refl; none = refl; each = refl };
           };
+      elements =
+          record {
+            notFirstActive = refl;
+            wide = refl;
+            straddling = refl;
+            topBelow = refl;
+            topAbove = refl;
+            vertical = refl;
+            verticalLater = refl;
+            loads = refl;
+            stores = refl;
+          };
     }

@@ -27,7 +27,7 @@ use Rattle.semantics.specs.Answer.{refusalAnswer, executedAnswer}
 use Rattle.semantics.specs.State.{State, Public, publicOf}
 use Rattle.semantics.specs.Effect.{effectOf}
 use Rattle.semantics.specs.Execute.{guard, validLengths, buffersAnswer, faultOf, faultAnswer, stackBad, accessAnswer, operationAnswer, wordAnswer, answerOf, wordEffect, ifDone, executeOf}
-use Rattle.semantics.specs.Lines.{firstLine, accessOf, addressAmong, accessLines, wordLines, answerInNumbers}
+use Rattle.semantics.specs.Lines.{firstLine, accessOf, faultValues, accessLines, wordLines, answerInNumbers}
 use Rattle.semantics.specs.Steps.{Sized}
 
 -- ---- guard
@@ -104,7 +104,7 @@ module _ (s : Settings) (u : Public) where
   unfolding accessAnswer
   access-lines o = go (stackBad s (u .x) (u .p) (u .memoryLength) o) (faultOf s (u .x) (u .p) (u .memoryLength) o)
     where
-      go : (b : Bool) (f : Option ℕ) → executedAnswer (guard (not b) StackMisaligned (faultAnswer s (u .x) (u .p) (u .memoryLength) o f)) ≡ cond b (answerWith stackMisaligned []) (cond (isSome f) (answerWith outsideMemory (addressAmong s u (some o) f)) (answerWith done []))
+      go : (b : Bool) (f : Option ℕ) → executedAnswer (guard (not b) StackMisaligned (faultAnswer s (u .x) (u .p) (u .memoryLength) o f)) ≡ cond b (answerWith stackMisaligned []) (cond (isSome f) (answerWith outsideMemory (faultValues s u (some o) f)) (answerWith done []))
       go true f = refl
       go false none = refl
       go false (some k) = refl

@@ -14,13 +14,13 @@ use lib.ListN.{length, getD}
 use Rattle.general.specs.Least.{least, isSome}
 use Rattle.general.proofs.LeastLaws.{none-some, is-some, least-some, some-least}
 use Rattle.general.proofs.BoolLaws.{and-parts, and-both, by-test, refute, clash}
-use Rattle.settings.specs.Answer.{Answer, answerWith, firstValue, badSettings, badLengths, undecodable, streamingOff, zaOff, stackMisaligned, outsideMemory}
+use Rattle.settings.specs.Answer.{Answer, answerWith, badSettings, badLengths, undecodable, streamingOff, zaOff, stackMisaligned, outsideMemory}
 use Rattle.settings.specs.Settings.{isVectorLength, validVectors, validSettings, maxLevel, strideOf}
 use Rattle.settings.specs.declared.Settings.{Settings}
 use Rattle.settings.proofs.SettingsLaws.{vector-valid}
 use Rattle.settings.proofs.Claims.{is-five-lengths, vectors-fit}
 use borrow.Author.Tests.{not-true, eqb-true, eqb-false, leb-true, leb-false, ltb-true, ltb-false, eq-eqb}
-use Rattle.semantics.specs.Answer.{executedNumber, executedAddress, executedAnswer}
+use Rattle.semantics.specs.Answer.{executedNumber, executedAnswer}
 use Rattle.semantics.specs.State.{State, publicOf}
 use Rattle.semantics.proofs.ExecuteLaws.{settings-facts, lengths-facts, answers-agree, Ends, does, stays, ends}
 use Rattle.tiles.specs.Element.{bytesOf}
@@ -33,11 +33,11 @@ use Rattle.encoding.specs.declared.operation.Operation.{Operation}
 use Rattle.encoding.specs.declared.operation.Operation.the-variants.{MovaToTile, MovazFromTile, MovaFromArray, MovazFromArray, St1, MovaFromTile, Ld1}
 use Rattle.encoding.specs.declared.operation.Decoded.{Decoded}
 use Rattle.encoding.specs.declared.operation.Decoded.the-variants.{Done, BadLevel, Undecodable}
-use Rattle.semantics.specs.Access.{addressOf, inMemory}
+use Rattle.semantics.specs.Access.{addressOf, elementOf, inMemory}
 use Rattle.semantics.specs.Execute.{validLengths, accessActive, faulting, faultOf, misaligned, executeOf}
 use Rattle.semantics.specs.Operations.{elementsIn, Active, addressIn}
-use Rattle.semantics.specs.Lines.{AnswerLine, lineWith, firstLine, isOperation, accessOf, stackIsBad, faultIn, addressAmong, answerInNumbers}
-use Rattle.semantics.specs.Reasons.{ReasonAt, SettingsBad, LengthsBad, NotInMemory, StackBad, ByteOutside, reasons, given, GivenExactly, FirstOutside, AddressTold, RefusalKeeps}
+use Rattle.semantics.specs.Lines.{AnswerLine, lineWith, firstLine, isOperation, accessOf, stackIsBad, faultIn, faultValues, answerInNumbers}
+use Rattle.semantics.specs.Reasons.{ReasonAt, SettingsBad, LengthsBad, NotInMemory, StackBad, ByteOutside, reasons, given, GivenExactly, FirstOutside, FaultTold, RefusalKeeps}
 
 -- ---- the first of some tests
 
@@ -139,7 +139,7 @@ lines-number false false false false false false true vs = refl
 lines-number false false false false false false false vs = refl
 
 -- only the last carries something
-lines-value : (a b c d e f g : Bool) (vs : List ℕ) → ((firstFrom 0 (tests a b c d e f g vs) ≡ 7) × (g ≡ true) × (firstLine (lines a b c d e f g vs) ≡ answerWith outsideMemory vs)) ⊎ ((firstFrom 0 (tests a b c d e f g vs) ≡ 7 → ⊥) × (firstValue (firstLine (lines a b c d e f g vs)) ≡ 0))
+lines-value : (a b c d e f g : Bool) (vs : List ℕ) → ((firstFrom 0 (tests a b c d e f g vs) ≡ 7) × (g ≡ true) × (firstLine (lines a b c d e f g vs) ≡ answerWith outsideMemory vs)) ⊎ ((firstFrom 0 (tests a b c d e f g vs) ≡ 7 → ⊥) × (firstLine (lines a b c d e f g vs) .values ≡ []))
 unfolding firstFrom tests lines
 lines-value true b c d e f g vs = inr ((λ q. omega arith), refl)
 lines-value false true c d e f g vs = inr ((λ q. omega arith), refl)
@@ -340,17 +340,18 @@ module _ (s : Settings) (w : ℕ) (t : State) (valid : isVectorLength (s .«vect
       some-least (faulting s (t .x) (t .p) (length (t .memory)) o) (s .«vector_bytes») (h .element * m o + h .byte) (byte-below o (h .element) (h .byte) (h .below) (h .within))
       (faulting-at o (h .element) (h .byte) (h .within) (h .active) (h .outside))
 
-  -- 7 tells the first byte of the lowest element
-  first-outside : (o : SliceAccess) (k : ℕ) → found ≡ some o → faultOf s (t .x) (t .p) (length (t .memory)) o ≡ some k → executedAddress (executeOf s w t .answer) ≡ addressOf (t .x) o k → FirstOutside s w t
+  -- 7 tells the lowest element and its first byte
+  first-outside : (o : SliceAccess) (k : ℕ) → found ≡ some o → faultOf s (t .x) (t .p) (length (t .memory)) o ≡ some k → executedAnswer (executeOf s w t .answer) .values ≡ addressOf (t .x) o k ∷ elementOf o k ∷ [] → FirstOutside s w t
   unfolding outside-first
   first-outside o k q e told =
       let l = least-some (faulting s (t .x) (t .p) (length (t .memory)) o) (s .«vector_bytes») k e in
       let b = and-parts (accessActive s (t .x) (t .p) (length (t .memory)) o k) _ (l .1) in
       record {
         first = outside-first o k q e;
-        told = told;
-        element = λ j i h w a n. clash _ (faulting-at o j i w a n) (l .2 (j * m o + i) (earlier j i h w));
-        byte = λ i h n. clash _ (faulting-at o (k / m o) i (below i h) (active-of o k (b .0)) n) (l .2 (k / m o * m o + i) (omega (arith, div-add-mod' k (m o))));
+        toldElement = ap (λ (vs : List ℕ). getD vs 1 0) told;
+        toldAddress = ap (λ (vs : List ℕ). getD vs 0 0) told;
+        noLowerElement = λ j i h w a n. clash _ (faulting-at o j i w a n) (l .2 (j * m o + i) (earlier j i h w));
+        noEarlierByte = λ i h n. clash _ (faulting-at o (k / m o) i (below i h) (active-of o k (b .0)) n) (l .2 (k / m o * m o + i) (omega (arith, div-add-mod' k (m o))));
       }
     where
       below : (i : ℕ) → i < k % m o → i < m o
@@ -376,7 +377,7 @@ module _ (s : Settings) (w : ℕ) (t : State) where
   lengthTest = not (validLengths s (length (t .x)) (length (t .z)) (length (t .p)) (length (t .za)) (length (t .memory)))
 
   abbrev told : List ℕ
-  told = addressAmong s (publicOf t) (accessOf (decodeOf w (s .level))) (faultIn s (publicOf t) (accessOf (decodeOf w (s .level))))
+  told = faultValues s (publicOf t) (accessOf (decodeOf w (s .level))) (faultIn s (publicOf t) (accessOf (decodeOf w (s .level))))
 
   -- the word's load or store, if it is one, and whether a byte of it is outside memory
   abbrev accessOfWord : Option SliceAccess
@@ -431,26 +432,26 @@ module _ (s : Settings) (w : ℕ) (t : State) where
         none = λ h. given-first ∙ none-first (Unit {0}) 0 testsOfWord (reasons s w t) (tt {0}) tests-reflect h;
       }
 
-  -- the address that the last test tells
+  -- what the last test tells
   seventh : given s w t ≡ 7 → firstLine linesOfWord ≡ answerWith outsideMemory told →
       faultTest ≡ true → FirstOutside s w t
-  seventh e l y = go (accessOfWord) refl y (ap firstValue (answer-first ∙ l))
+  seventh e l y = go (accessOfWord) refl y (ap (λ (a : Answer). a .values) (answer-first ∙ l))
     where
       valid : isVectorLength (s .«vector_bytes») ≡ true
       valid = vector-good (given-exactly .reason 6 (omega arith) e .1 0 (omega arith))
 
-      go : (a : Option SliceAccess) → accessOfWord ≡ a → isSome (faultIn s (publicOf t) a) ≡ true → executedAddress (executeOf s w t .answer) ≡ getD (addressAmong s (publicOf t) a (faultIn s (publicOf t) a)) 0 0 → FirstOutside s w t
+      go : (a : Option SliceAccess) → accessOfWord ≡ a → isSome (faultIn s (publicOf t) a) ≡ true → executedAnswer (executeOf s w t .answer) .values ≡ faultValues s (publicOf t) a (faultIn s (publicOf t) a) → FirstOutside s w t
       go none q y r = absurd (true≢false (sym y))
-      go (some o) q y r = let k = is-some _ y in first-outside s w t valid o (k .0) q (k .1) (r ∙ ap (λ (f : Option ℕ). getD (addressAmong s (publicOf t) (some o) f) 0 0) (k .1))
+      go (some o) q y r = let k = is-some _ y in first-outside s w t valid o (k .0) q (k .1) (r ∙ ap (faultValues s (publicOf t) (some o)) (k .1))
 
-  pub address-told : AddressTold s w t
+  pub fault-told : FaultTold s w t
   unfolding testsOfWord linesOfWord
-  address-told = go (lines-value _ _ _ _ _ _ _ told)
+  fault-told = go (lines-value _ _ _ _ _ _ _ told)
     where
       go : ((firstFrom 0 testsOfWord ≡ 7) × (faultTest ≡ true) × (firstLine linesOfWord ≡ answerWith outsideMemory told)) ⊎
-          ((firstFrom 0 testsOfWord ≡ 7 → ⊥) × (firstValue (firstLine linesOfWord) ≡ 0)) → AddressTold s w t
+          ((firstFrom 0 testsOfWord ≡ 7 → ⊥) × (firstLine linesOfWord .values ≡ [])) → FaultTold s w t
       go (inl h) = record { seven = λ e. seventh e (h .2) (h .1); zero = λ n. absurd (n (given-first ∙ h .0)) }
-      go (inr h) = record { seven = λ e. absurd (h .0 (sym given-first ∙ e)); zero = λ n. ap firstValue answer-first ∙ h .1 }
+      go (inr h) = record { seven = λ e. absurd (h .0 (sym given-first ∙ e)); zero = λ n. let e = ap (λ (a : Answer). a .values) answer-first ∙ h .1 in (ap (λ (vs : List ℕ). getD vs 0 0) e, ap (λ (vs : List ℕ). getD vs 1 0) e) }
 
   pub refusal-keeps : RefusalKeeps s w t
   refusal-keeps h = go (ends s w t)

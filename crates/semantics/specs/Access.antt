@@ -25,6 +25,10 @@ addressAt base offset m k = (base + (offset + k / m) * m + k % m) % 2 ^ 64
 abbrev pub addressOf : List ℕ → SliceAccess → ℕ → ℕ
 addressOf x o k = addressAt (baseOf x (o .rn)) (offsetOf x (o .rm)) (bytesOf (o .slice .size)) k
 
+-- the number of the element that byte k is of
+abbrev pub elementOf : SliceAccess → ℕ → ℕ
+elementOf o k = k / bytesOf (o .slice .size)
+
 -- memory has lm bytes from address a on
 abbrev pub inMemory : ℕ → ℕ → ℕ → Bool
 inMemory a lm address = leb a address && ltb address (a + lm)

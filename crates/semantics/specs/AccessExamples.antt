@@ -8,7 +8,7 @@ use lib.Dec.{eqb, ltb}
 use lib.ListN.{set, take, drop, replicate}
 use Rattle.semantics.specs.State.{stateOf}
 use Rattle.semantics.specs.Execute.{executeOf}
-use Rattle.semantics.specs.ExampleBuffers.{vectorIn, zAt, zaAt, memoryOf, bytesFrom, settingsAt, xWith, ones, predicate0, Seen, seen, executedIn, executedUnchecked, executed, executedUnder, executedAt, vectors, doneWith, refusedWith}
+use Rattle.semantics.specs.ExampleBuffers.{vectorIn, zAt, zaAt, memoryOf, bytesFrom, settingsAt, xWith, ones, predicate0, Seen, seen, executedIn, executedUnchecked, executed, executedUnder, executedAt, vectors, doneWith, refusedWith, outsideWith}
 
 -- ZA at B bytes with vector v replaced
 abbrev withVector : ℕ → ℕ → List ℕ → List ℕ
@@ -21,10 +21,10 @@ abbrev atEnd : ℕ → List ℕ → Seen
 atEnd w p = executedIn 16 0x1000 64 w (set (set (xWith 12 6) 1 0x1032) 2 2) p
 
 pub record ExampleEnd : Type 0 where
-  -- the lowest element that faults is not the first active one, and its first byte outside is byte 2, not its start
-  pub all : map (λ (w : ℕ). atEnd w (ones 16)) (0xE0A20025 ∷ 0xE0820025 ∷ []) ≡ replicate 2 (refusedWith 16 64 7 0x1040)
+  -- the lowest element that faults, 1, is not the first active one, and its first byte outside is byte 2, not its start
+  pub all : map (λ (w : ℕ). atEnd w (ones 16)) (0xE0A20025 ∷ 0xE0820025 ∷ []) ≡ replicate 2 (outsideWith 16 64 0x1040 1)
   -- elements 0 and 2: element 2 is outside from its first byte on
-  pub later : map (λ (w : ℕ). atEnd w (predicate0 16 (1 ∷ 1 ∷ []))) (0xE0A20025 ∷ 0xE0820025 ∷ []) ≡ replicate 2 (refusedWith 16 64 7 0x1042)
+  pub later : map (λ (w : ℕ). atEnd w (predicate0 16 (1 ∷ 1 ∷ []))) (0xE0A20025 ∷ 0xE0820025 ∷ []) ≡ replicate 2 (outsideWith 16 64 0x1042 2)
   -- element 0 only, and bits that belong to no element's start: done
   pub stores : atEnd 0xE0A20025 (predicate0 16 (0xEF ∷ 0xEE ∷ [])) ≡
       doneWith (zAt 16) (zaAt 16) (take 58 (memoryOf 64) ++ (take 4 (vectorIn (zaAt 16) 16 13) ++ drop 62 (memoryOf 64)))
@@ -39,9 +39,9 @@ overTop address w p = executedIn 16 address 16 w (set (set (xWith 12 5) 1 (2 ^ 6
 
 pub record ExampleTop : Type 0 where
   -- memory at address 0: byte 0 of element 0 is outside
-  pub low : map (λ (w : ℕ). overTop 0 w (ones 16)) (0xE0E20026 ∷ 0xE0C20026 ∷ []) ≡ replicate 2 (refusedWith 16 16 7 0xFFFFFFFFFFFFFFFC)
+  pub low : map (λ (w : ℕ). overTop 0 w (ones 16)) (0xE0E20026 ∷ 0xE0C20026 ∷ []) ≡ replicate 2 (outsideWith 16 16 0xFFFFFFFFFFFFFFFC 0)
   -- memory at the top: byte 4 of element 0 is outside, and its address is 0
-  pub high : map (λ (w : ℕ). overTop (2 ^ 64 - 16) w (ones 16)) (0xE0E20026 ∷ 0xE0C20026 ∷ []) ≡ replicate 2 (refusedWith 16 16 7 0)
+  pub high : map (λ (w : ℕ). overTop (2 ^ 64 - 16) w (ones 16)) (0xE0E20026 ∷ 0xE0C20026 ∷ []) ≡ replicate 2 (outsideWith 16 16 0 0)
   -- element 1 only, memory at address 0
   pub stores : overTop 0 0xE0E20026 (predicate0 16 (0xFE ∷ 1 ∷ [])) ≡
       doneWith (zAt 16) (zaAt 16) (take 4 (memoryOf 16) ++ (drop 8 (vectorIn (zaAt 16) 16 11) ++ drop 12 (memoryOf 16)))
@@ -56,23 +56,23 @@ pub record ExampleOffset : Type 0 where
   -- E0820025, m = 4: X2 = 2^64 - 1
   pub wide : executedIn 16 0x1000 16 0xE0820025 (set (set (xWith 12 6) 1 0x1004) 2 (2 ^ 64 - 1)) (ones 16) ≡ doneWith (zAt 16) (withVector 16 13 (memoryOf 16)) (memoryOf 16)
   -- elements 0 and 1 of E0A20025 fault on both sides of 2^64: the lowest element is told, not the lowest address
-  pub both : executedIn 16 0x10 16 0xE0A20025 (set (set (xWith 12 6) 1 (2 ^ 64 - 4)) 2 0) (ones 16) ≡ refusedWith 16 16 7 0xFFFFFFFFFFFFFFFC
+  pub both : executedIn 16 0x10 16 0xE0A20025 (set (set (xWith 12 6) 1 (2 ^ 64 - 4)) 2 0) (ones 16) ≡ outsideWith 16 16 0xFFFFFFFFFFFFFFFC 0
 
 -- The stack pointer as a base.
 pub record ExampleStack : Type 0 where
   -- E03F03E0 at B 32: only the last element is active, behind the first 16
-  pub long : executed 32 0xE03F03E0 8 (xWith 31 0x1008) (predicate0 32 (0 ∷ 0 ∷ 0 ∷ 0x80 ∷ [])) ≡ refusedWith 32 8 6 0
+  pub long : executed 32 0xE03F03E0 8 (xWith 31 0x1008) (predicate0 32 (0 ∷ 0 ∷ 0 ∷ 0x80 ∷ [])) ≡ refusedWith 32 8 6
   -- E02203E0: bytes, row W12, offset register X2. The base alone must be a multiple of 16
   pub offset : executed 16 0xE02203E0 64 (set (set (xWith 12 5) 31 0x10) 2 1) (ones 16) ≡
       doneWith (zAt 16) (zaAt 16) (take 17 (memoryOf 64) ++ (vectorIn (zaAt 16) 16 5 ++ drop 33 (memoryOf 64)))
-  pub sum : executed 16 0xE02203E0 64 (set (set (xWith 12 5) 31 8) 2 8) (ones 16) ≡ refusedWith 16 64 6 0
+  pub sum : executed 16 0xE02203E0 64 (set (set (xWith 12 5) 31 8) 2 8) (ones 16) ≡ refusedWith 16 64 6
   -- it has 64 bits: memory at the top, which E01F03E0 loads
   pub high : executedIn 16 (2 ^ 64 - 16) 16 0xE01F03E0 (set (xWith 12 5) 31 (2 ^ 64 - 16)) (ones 16) ≡ doneWith (zAt 16) (withVector 16 5 (memoryOf 16)) (memoryOf 16)
   -- E1FFFFEF and E05FFFEF, vertical: 1001 hex is no multiple of 16 either
-  pub odd : map (λ (w : ℕ). executed 16 w 8 (xWith 31 0x1001) (ones 16)) (0xE1FFFFEF ∷ 0xE05FFFEF ∷ []) ≡ replicate 2 (refusedWith 16 8 6 0)
+  pub odd : map (λ (w : ℕ). executed 16 w 8 (xWith 31 0x1001) (ones 16)) (0xE1FFFFEF ∷ 0xE05FFFEF ∷ []) ≡ replicate 2 (refusedWith 16 8 6)
   -- only the last of 8, 4 and 2 elements is active
   pub last : map (λ (w : ℕ). executed 16 w 8 (xWith 31 0x1008) (predicate0 16 (0 ∷ 0x40 ∷ []))) (0xE07F03E0 ∷ 0xE05F03E0 ∷ []) ++ (map (λ (w : ℕ). executed 16 w 8 (xWith 31 0x1008) (predicate0 16 (0 ∷ 0x10 ∷ []))) (0xE0BF03E0 ∷ 0xE09F03E0 ∷ []) ++ map (λ (w : ℕ). executed 16 w 8 (xWith 31 0x1008) (predicate0 16 (0 ∷ 1 ∷ []))) (0xE0FF03E0 ∷ 0xE0DF03E0 ∷ [])) ≡
-      replicate 6 (refusedWith 16 8 6 0)
+      replicate 6 (refusedWith 16 8 6)
   -- bits that no element of 4 bytes goes by: none is active
   pub between : executed 16 0xE0BF03E0 8 (xWith 31 0x1008) (predicate0 16 (0xEE ∷ 0xEE ∷ [])) ≡ doneWith (zAt 16) (zaAt 16) (memoryOf 8)
   pub zeroes : executed 16 0xE09F03E0 8 (set (xWith 12 0) 31 0x1008) (predicate0 16 (0xEE ∷ 0xEE ∷ [])) ≡ doneWith (zAt 16) (withVector 16 0 (replicate 16 0)) (memoryOf 8)
@@ -89,9 +89,9 @@ shortened B i =
     seen (executeOf (settingsAt B 0) 0xC0000010 (stateOf (less 0 (bytesFrom 50 32)) (less 1 (zAt 16)) (less 2 (ones 16)) (less 3 (zaAt 16)) (memoryOf 16))) .number
 
 pub record ExampleLengths : Type 0 where
-  pub memory : executedIn 16 (2 ^ 64 - 8) 16 0xE0020020 (xWith 12 5) (ones 16) ≡ refusedWith 16 16 2 0
+  pub memory : executedIn 16 (2 ^ 64 - 8) 16 0xE0020020 (xWith 12 5) (ones 16) ≡ refusedWith 16 16 2
   -- one byte beyond 2^64
-  pub top : executedIn 16 (2 ^ 64 - 15) 16 0xE0020020 (xWith 12 5) (ones 16) ≡ refusedWith 16 16 2 0
+  pub top : executedIn 16 (2 ^ 64 - 15) 16 0xE0020020 (xWith 12 5) (ones 16) ≡ refusedWith 16 16 2
   -- buffers that are one byte or number too short, with a word that is no instruction; vectors of 17 bytes come before them
   pub shorter : map (shortened 16) (0 ∷ 1 ∷ 2 ∷ 3 ∷ []) ∷ map (shortened 17) (0 ∷ 1 ∷ 2 ∷ 3 ∷ []) ∷ [] ≡ replicate 4 2 ∷ replicate 4 1 ∷ []
   pub buffers : lengthened (0 ∷ []) [] [] [] ∷ lengthened [] (0 ∷ []) [] [] ∷ lengthened [] [] (0 ∷ []) [] ∷ lengthened [] [] [] (0 ∷ []) ∷ [] ≡ replicate 4 2
@@ -104,10 +104,10 @@ filling address w = executedIn 16 address 16 w (set (set (xWith 12 9) 1 address)
 pub record ExampleFills : Type 0 where
   pub stores : map (λ (a : ℕ). filling a 0xE062002A) (0 ∷ (2 ^ 64 - 16) ∷ []) ≡ replicate 2 (doneWith (zAt 16) (zaAt 16) (vectorIn (zaAt 16) 16 7))
   pub loads : map (λ (a : ℕ). filling a 0xE1C20026) (0 ∷ (2 ^ 64 - 16) ∷ []) ≡ replicate 2 (doneWith (zAt 16) (withVector 16 6 (memoryOf 16)) (memoryOf 16))
-  -- one byte further on, the last byte of the last element is outside: after the end, and at address 0
-  pub past : map (λ (w : ℕ). executedIn 16 0 16 w (set (set (xWith 12 9) 1 1) 2 0) (ones 16)) (0xE062002A ∷ 0xE1C20026 ∷ []) ≡ replicate 2 (refusedWith 16 16 7 16)
+  -- one byte further on, the last byte of the last element is outside, after the end and at address 0: element 7 of the first word, element 0 of the second
+  pub past : map (λ (w : ℕ). executedIn 16 0 16 w (set (set (xWith 12 9) 1 1) 2 0) (ones 16)) (0xE062002A ∷ 0xE1C20026 ∷ []) ≡ outsideWith 16 16 16 7 ∷ outsideWith 16 16 16 0 ∷ []
   pub wraps : map (λ (w : ℕ). executedIn 16 (2 ^ 64 - 16) 16 w (set (set (xWith 12 9) 1 (2 ^ 64 - 15)) 2 0) (ones 16)) (0xE062002A ∷ 0xE1C20026 ∷ []) ≡
-      replicate 2 (refusedWith 16 16 7 0)
+      outsideWith 16 16 0 7 ∷ outsideWith 16 16 0 0 ∷ []
 
 -- What a load sets to zero, and what it does not touch.
 pub record ExampleLoad : Type 0 where
@@ -151,13 +151,13 @@ abbrev accessWords : List ℕ
 accessWords = 0xE07F03E0 ∷ 0xE0BF03E0 ∷ 0xE0FF03E0 ∷ 0xE1FF03E0 ∷ 0xE01F03E0 ∷ 0xE05F03E0 ∷ 0xE09F03E0 ∷ 0xE0DF03E0 ∷ 0xE1DF03E0 ∷ []
 
 pub record ExampleAccessRefused : Type 0 where
-  pub low : map (executedAt 0) accessWords ≡ replicate 9 (refusedWith 16 8 3 0)
-  pub streaming : map (executedUnder 3 false true) accessWords ≡ replicate 9 (refusedWith 16 8 4 0)
-  pub za : map (executedUnder 3 true false) accessWords ≡ replicate 9 (refusedWith 16 8 5 0)
+  pub low : map (executedAt 0) accessWords ≡ replicate 9 (refusedWith 16 8 3)
+  pub streaming : map (executedUnder 3 false true) accessWords ≡ replicate 9 (refusedWith 16 8 4)
+  pub za : map (executedUnder 3 true false) accessWords ≡ replicate 9 (refusedWith 16 8 5)
   -- a stack pointer of 1008 hex, with element 0 active, which is outside memory too
-  pub stack : map (λ (w : ℕ). executed 16 w 8 (xWith 31 0x1008) (predicate0 16 (1 ∷ 0 ∷ []))) accessWords ≡ replicate 9 (refusedWith 16 8 6 0)
+  pub stack : map (λ (w : ℕ). executed 16 w 8 (xWith 31 0x1008) (predicate0 16 (1 ∷ 0 ∷ []))) accessWords ≡ replicate 9 (refusedWith 16 8 6)
   -- and of 1010 hex
-  pub outside : map (λ (w : ℕ). executed 16 w 8 (xWith 31 0x1010) (predicate0 16 (1 ∷ 0 ∷ []))) accessWords ≡ replicate 9 (refusedWith 16 8 7 0x1010)
+  pub outside : map (λ (w : ℕ). executed 16 w 8 (xWith 31 0x1010) (predicate0 16 (1 ∷ 0 ∷ []))) accessWords ≡ replicate 9 (outsideWith 16 8 0x1010 0)
 
 -- The stack check off (request 4). E01F03E0 is example 9 as a load: bytes, row W12, the stack pointer 1008 hex, which is a base like any other
 abbrev unchecked : ℕ → List ℕ → Seen
@@ -166,12 +166,12 @@ unchecked address p = executedUnchecked 16 address 64 0xE01F03E0 (set (xWith 12 
 pub record ExampleUnchecked : Type 0 where
   -- all active: with memory from 1000 hex on done, with memory elsewhere 7; both 6 with the stack check on
   pub loads : unchecked 0x1000 (ones 16) ≡ doneWith (zAt 16) (withVector 16 0 (take 16 (drop 8 (memoryOf 64)))) (memoryOf 64)
-  pub elsewhere : unchecked 0x2000 (ones 16) ≡ refusedWith 16 64 7 0x1008
-  pub on : map (λ (a : ℕ). executedIn 16 a 64 0xE01F03E0 (set (xWith 12 0) 31 0x1008) (ones 16)) (0x1000 ∷ 0x2000 ∷ []) ≡ replicate 2 (refusedWith 16 64 6 0)
+  pub elsewhere : unchecked 0x2000 (ones 16) ≡ outsideWith 16 64 0x1008 0
+  pub on : map (λ (a : ℕ). executedIn 16 a 64 0xE01F03E0 (set (xWith 12 0) 31 0x1008) (ones 16)) (0x1000 ∷ 0x2000 ∷ []) ≡ replicate 2 (refusedWith 16 64 6)
   -- none active: the slice is zero, as with the stack check on
   pub none : unchecked 0x2000 (predicate0 16 (0 ∷ 0 ∷ [])) ≡ doneWith (zAt 16) (withVector 16 0 (replicate 16 0)) (memoryOf 64)
   -- the words above, memory at address 0
-  pub each : map (λ (w : ℕ). executedUnchecked 16 0 8 w (xWith 31 0x1008) (ones 16)) accessWords ≡ replicate 9 (refusedWith 16 8 7 0x1008)
+  pub each : map (λ (w : ℕ). executedUnchecked 16 0 8 w (xWith 31 0x1008) (ones 16)) accessWords ≡ replicate 9 (outsideWith 16 8 0x1008 0)
 
 pub record AccessHold : Type 0 where
   pub end : ExampleEnd

@@ -60,9 +60,9 @@ pub record ExampleFour : Type 0 where
 
 -- Refused, and nothing changed: a word of each below its level 3, with streaming off 4, with ZA off 5.
 pub record ExampleRefused : Type 0 where
-  pub low : executedAt 0 0xC002B973 ∷ executedAt 1 0xC00668BA ∷ executedAt 2 0xC0062ED4 ∷ [] ≡ replicate 3 (refusedWith 16 8 3 0)
-  pub streaming : map (executedUnder 3 false true) (0xC002B973 ∷ 0xC00668BA ∷ 0xC0062ED4 ∷ []) ≡ replicate 3 (refusedWith 16 8 4 0)
-  pub za : map (executedUnder 3 true false) (0xC002B973 ∷ 0xC00668BA ∷ 0xC0062ED4 ∷ []) ≡ replicate 3 (refusedWith 16 8 5 0)
+  pub low : executedAt 0 0xC002B973 ∷ executedAt 1 0xC00668BA ∷ executedAt 2 0xC0062ED4 ∷ [] ≡ replicate 3 (refusedWith 16 8 3)
+  pub streaming : map (executedUnder 3 false true) (0xC002B973 ∷ 0xC00668BA ∷ 0xC0062ED4 ∷ []) ≡ replicate 3 (refusedWith 16 8 4)
+  pub za : map (executedUnder 3 true false) (0xC002B973 ∷ 0xC00668BA ∷ 0xC0062ED4 ∷ []) ≡ replicate 3 (refusedWith 16 8 5)
 
 pub record AddedHold : Type 0 where
   pub fromTile : ExampleFromTile

@@ -7,7 +7,7 @@ use mathlib.Core.List.{List, [], _∷_, _++_}
 use lib.ListN.{set, take, drop, replicate}
 use Rattle.settings.specs.Settings.{settingsOf, withStreaming, withZa, withMemoryAddress, withStackCheck}
 use Rattle.settings.specs.declared.Settings.{Settings}
-use Rattle.semantics.specs.Answer.{executedNumber, executedAddress}
+use Rattle.semantics.specs.Answer.{executedNumber, executedFault}
 use Rattle.semantics.specs.State.{State, stateOf}
 use Rattle.semantics.specs.Execute.{Outcome, executeOf}
 
@@ -59,16 +59,19 @@ ones B = replicate (16 * (B / 8)) 255
 abbrev pub predicate0 : ℕ → List ℕ → List ℕ
 predicate0 B r = r ++ replicate (15 * (B / 8)) 255
 
--- what a host sees of an execution: the number and the address of its answer, and the buffers that a word may write
+-- what a host sees of an execution: the number, the address and the element of its answer, and the buffers that a word may write
 pub record Seen : Type 0 where
   pub number : ℕ
   pub address : ℕ
+  pub element : ℕ
   pub z : List ℕ
   pub za : List ℕ
   pub memory : List ℕ
 
 abbrev pub seen : Outcome → Seen
-seen o = record { number = executedNumber (o .answer); address = executedAddress (o .answer); z = o .state .z; za = o .state .za; memory = o .state .memory }
+seen o =
+    let f = executedFault (o .answer) in
+    record { number = executedNumber (o .answer); address = f .address; element = f .element; z = o .state .z; za = o .state .za; memory = o .state .memory }
 
 -- a word executed at a vector length, with memory of n bytes at an address; the same with the stack check off; at address 0
 abbrev pub executedIn : ℕ → ℕ → ℕ → ℕ → List ℕ → List ℕ → Seen
@@ -93,9 +96,12 @@ abbrev pub vectors : ℕ → ℕ → (ℕ → List ℕ) → List ℕ
 vectors B zero f = []
 vectors B (suc n) f = vectors B n f ++ f n
 
--- 0, with these Z, ZA and memory; refused by a number with an address, nothing changed
+-- 0, with these Z, ZA and memory; refused by a number that carries nothing, and by 7 with an address and an element, nothing changed
 abbrev pub doneWith : List ℕ → List ℕ → List ℕ → Seen
-doneWith z za memory = record { number = 0; address = 0; z = z; za = za; memory = memory }
+doneWith z za memory = record { number = 0; address = 0; element = 0; z = z; za = za; memory = memory }
 
-abbrev pub refusedWith : ℕ → ℕ → ℕ → ℕ → Seen
-refusedWith B n number address = record { number = number; address = address; z = zAt B; za = zaAt B; memory = memoryOf n }
+abbrev pub refusedWith : ℕ → ℕ → ℕ → Seen
+refusedWith B n number = record { number = number; address = 0; element = 0; z = zAt B; za = zaAt B; memory = memoryOf n }
+
+abbrev pub outsideWith : ℕ → ℕ → ℕ → ℕ → Seen
+outsideWith B n address element = record { number = 7; address = address; element = element; z = zAt B; za = zaAt B; memory = memoryOf n }

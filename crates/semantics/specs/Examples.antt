@@ -14,9 +14,10 @@ use Rattle.settings.specs.Settings.{settingsOf}
 use Rattle.semantics.specs.State.{stateOf}
 use Rattle.semantics.specs.Execute.{executeOf}
 use Rattle.semantics.specs.Run.{Ran, runOf}
-use Rattle.semantics.specs.ExampleBuffers.{bytesFrom, switched, settingsAt, stateAt, seen, alternate, vectorIn, zAt, zaAt, memoryOf, xWith, ones, predicate0, Seen, executedIn, executedUnchecked, executed, executedUnder, executedAt, vectors, doneWith, refusedWith}
+use Rattle.semantics.specs.ExampleBuffers.{bytesFrom, switched, settingsAt, stateAt, seen, alternate, vectorIn, zAt, zaAt, memoryOf, xWith, ones, predicate0, Seen, executedIn, executedUnchecked, executed, executedUnder, executedAt, vectors, doneWith, refusedWith, outsideWith}
 use Rattle.semantics.specs.AddedExamples.{AddedHold}
 use Rattle.semantics.specs.AccessExamples.{AccessHold}
+use Rattle.semantics.specs.ElementExamples.{ElementsHold}
 use Rattle.semantics.specs.PlaceExamples.{ExamplePlaces}
 
 -- C0000000: byte tile, row (W12) mod B, P0, Z0
@@ -35,8 +36,8 @@ pub record Example2 : Type 0 where
 
 -- C0000010 and C0410000: answer 3 at every level
 pub record Example3 : Type 0 where
-  pub first : (map (λ l. executedAt l 0xC0000010) (0 ∷ 1 ∷ 2 ∷ 3 ∷ [])) ≡ replicate 4 (refusedWith 16 8 3 0)
-  pub second : (map (λ l. executedAt l 0xC0410000) (0 ∷ 1 ∷ 2 ∷ 3 ∷ [])) ≡ replicate 4 (refusedWith 16 8 3 0)
+  pub first : (map (λ l. executedAt l 0xC0000010) (0 ∷ 1 ∷ 2 ∷ 3 ∷ [])) ≡ replicate 4 (refusedWith 16 8 3)
+  pub second : (map (λ l. executedAt l 0xC0410000) (0 ∷ 1 ∷ 2 ∷ 3 ∷ [])) ≡ replicate 4 (refusedWith 16 8 3)
 
 -- C0C1000F, B 16: n = 1; vector 15 whatever W12 holds
 pub record Example4 : Type 0 where
@@ -44,7 +45,7 @@ pub record Example4 : Type 0 where
 
 -- C0020200: level 2 gives 3; level 3 decodes, which its word says
 pub record Example5 : Type 0 where
-  pub low : executedAt 2 0xC0020200 ≡ refusedWith 16 8 3 0
+  pub low : executedAt 2 0xC0020200 ≡ refusedWith 16 8 3
 
 -- C0C2E3BF: m = 8, vertical, W15, tile 6, offset 1, Z31; B 64, W15 = 4,294,967,295: slice 0
 pub record Example6 : Type 0 where
@@ -69,7 +70,7 @@ pub record Example8 : Type 0 where
   pub moves : executed 16 0xC0060A6A 8 (xWith 8 6) (ones 16) ≡
       doneWith (take 160 (zAt 16) ++ (vectorIn (zaAt 16) 16 1 ++ (vectorIn (zaAt 16) 16 9 ++ drop 192 (zAt 16))))
       (take 16 (zaAt 16) ++ (replicate 16 0 ++ (take 112 (drop 32 (zaAt 16)) ++ (replicate 16 0 ++ drop 160 (zaAt 16))))) (memoryOf 8)
-  pub odd : executedAt 3 0xC0060A01 ≡ refusedWith 16 8 3 0
+  pub odd : executedAt 3 0xC0060A01 ≡ refusedWith 16 8 3
   -- beyond 01's sentence: B 32, W8 = 24: vectors 11 and 27
   pub longer : executed 32 0xC0060A6A 8 (xWith 8 24) (ones 32) ≡
       doneWith (take 320 (zAt 32) ++ (vectorIn (zaAt 32) 32 11 ++ (vectorIn (zaAt 32) 32 27 ++ drop 384 (zAt 32))))
@@ -79,25 +80,25 @@ pub record Example8 : Type 0 where
 -- stack check off (request 4), all active: with memory from 1000 hex on done, and stored at 1008 hex, with W12 = 5 row 5; with memory elsewhere 7, address 1008 hex
 pub record Example9 : Type 0 where
   -- whichever of the sixteen elements is the active one
-  pub active : map (λ (e : ℕ). executed 16 0xE03F03E0 8 (xWith 31 0x1008) (predicate0 16 (2 ^ e % 256 ∷ 2 ^ e / 256 ∷ []))) (0 ∷ 1 ∷ 2 ∷ 3 ∷ 4 ∷ 5 ∷ 6 ∷ 7 ∷ 8 ∷ 9 ∷ 10 ∷ 11 ∷ 12 ∷ 13 ∷ 14 ∷ 15 ∷ []) ≡ replicate 16 (refusedWith 16 8 6 0)
+  pub active : map (λ (e : ℕ). executed 16 0xE03F03E0 8 (xWith 31 0x1008) (predicate0 16 (2 ^ e % 256 ∷ 2 ^ e / 256 ∷ []))) (0 ∷ 1 ∷ 2 ∷ 3 ∷ 4 ∷ 5 ∷ 6 ∷ 7 ∷ 8 ∷ 9 ∷ 10 ∷ 11 ∷ 12 ∷ 13 ∷ 14 ∷ 15 ∷ []) ≡ replicate 16 (refusedWith 16 8 6)
   pub none : executed 16 0xE03F03E0 8 (xWith 31 0x1008) (predicate0 16 (0 ∷ 0 ∷ [])) ≡ doneWith (zAt 16) (zaAt 16) (memoryOf 8)
-  pub on : map (λ (a : ℕ). executedIn 16 a 64 0xE03F03E0 (set (xWith 12 5) 31 0x1008) (ones 16)) (0x1000 ∷ 0x2000 ∷ []) ≡ replicate 2 (refusedWith 16 64 6 0)
+  pub on : map (λ (a : ℕ). executedIn 16 a 64 0xE03F03E0 (set (xWith 12 5) 31 0x1008) (ones 16)) (0x1000 ∷ 0x2000 ∷ []) ≡ replicate 2 (refusedWith 16 64 6)
   pub off : executedUnchecked 16 0x1000 64 0xE03F03E0 (set (xWith 12 5) 31 0x1008) (ones 16) ≡
       doneWith (zAt 16) (zaAt 16) (take 8 (memoryOf 64) ++ (vectorIn (zaAt 16) 16 5 ++ drop 24 (memoryOf 64)))
-  pub offElsewhere : executedUnchecked 16 0x2000 64 0xE03F03E0 (set (xWith 12 5) 31 0x1008) (ones 16) ≡ refusedWith 16 64 7 0x1008
+  pub offElsewhere : executedUnchecked 16 0x2000 64 0xE03F03E0 (set (xWith 12 5) 31 0x1008) (ones 16) ≡ outsideWith 16 64 0x1008 0
   pub offNone : executedUnchecked 16 0x2000 64 0xE03F03E0 (xWith 31 0x1008) (predicate0 16 (0 ∷ 0 ∷ [])) ≡ doneWith (zAt 16) (zaAt 16) (memoryOf 64)
   -- beyond 01's sentence: the stack pointer 10 hex is the base and register 31 as an offset is zero, so bytes 16 to 31 are written
   pub aligned : executed 16 0xE03F03E0 64 (set (xWith 12 5) 31 16) (ones 16) ≡
       doneWith (zAt 16) (zaAt 16) (take 16 (memoryOf 64) ++ (vectorIn (zaAt 16) 16 5 ++ drop 32 (memoryOf 64)))
 
--- E0220020, B 16, X1 = 2^64 - 8, X2 = 4, memory address 0, length 64. All active: 7, address FFFFFFFFFFFFFFFC. Elements 4 to 15
+-- E0220020, B 16, X1 = 2^64 - 8, X2 = 4, memory address 0, length 64. All active: 7, address FFFFFFFFFFFFFFFC, element 0 (request 6). Elements 4 to 15
 -- only: done, bytes 0 to 11 written; with W12 = 5 these are of row 5
 pub record Example10 : Type 0 where
-  pub all : executed 16 0xE0220020 64 (set (set (xWith 12 5) 1 (2 ^ 64 - 8)) 2 4) (ones 16) ≡ refusedWith 16 64 7 0xFFFFFFFFFFFFFFFC
+  pub all : executed 16 0xE0220020 64 (set (set (xWith 12 5) 1 (2 ^ 64 - 8)) 2 4) (ones 16) ≡ outsideWith 16 64 0xFFFFFFFFFFFFFFFC 0
   pub some : executed 16 0xE0220020 64 (set (set (xWith 12 5) 1 (2 ^ 64 - 8)) 2 4) (predicate0 16 (0xF0 ∷ 0xFF ∷ [])) ≡
       doneWith (zAt 16) (zaAt 16) (drop 4 (vectorIn (zaAt 16) 16 5) ++ drop 12 (memoryOf 64))
   -- beyond 01's sentence: where only a later element faults, nothing is written either
-  pub later : executed 16 0xE0220020 64 (set (set (xWith 12 5) 1 56) 2 0) (ones 16) ≡ refusedWith 16 64 7 64
+  pub later : executed 16 0xE0220020 64 (set (set (xWith 12 5) 1 56) 2 0) (ones 16) ≡ outsideWith 16 64 64 8
 
 -- E022A823 at B 32 with n bytes of memory at 1000 hex
 abbrev pub storedAt : ℕ → Seen
@@ -109,7 +110,7 @@ storedAt n =
 pub record ExampleStore : Type 0 where
   pub inside : storedAt 64 ≡
       doneWith (zAt 32) (zaAt 32) (take 8 (memoryOf 64) ++ (alternate true (vectors 1 32 (λ e. take 1 (drop 23 (vectorIn (zaAt 32) 32 e)))) (drop 8 (memoryOf 64)) ++ drop 40 (memoryOf 64)))
-  pub outside : storedAt 28 ≡ refusedWith 32 28 7 0x101C
+  pub outside : storedAt 28 ≡ outsideWith 32 28 0x101C 20
 
 -- beyond 01's examples, at B 32: columns of 16-byte elements, and a horizontal slice taken with zeroing
 pub record ExampleSlices : Type 0 where
@@ -130,11 +131,11 @@ unsettled level = seen (executeOf (switched (settingsOf 16 16 level) false false
 
 -- 12, and the other checks of settings: C0000000 at level 1 with streaming and ZA off gives 4, with ZA off 5; level 4 gives 1
 pub record Example12 : Type 0 where
-  pub both : executedUnder 1 false false 0xC0000000 ≡ refusedWith 16 8 4 0
-  pub za : executedUnder 1 true false 0xC0000000 ≡ refusedWith 16 8 5 0
-  pub level : executedAt 4 0xC0000000 ≡ refusedWith 16 8 1 0
+  pub both : executedUnder 1 false false 0xC0000000 ≡ refusedWith 16 8 4
+  pub za : executedUnder 1 true false 0xC0000000 ≡ refusedWith 16 8 5
+  pub level : executedAt 4 0xC0000000 ≡ refusedWith 16 8 1
   -- beyond 01's sentence: a word that is no instruction gives 3 with streaming and ZA off too
-  pub word : executedUnder 1 false false 0xC0000010 ≡ refusedWith 16 8 3 0
+  pub word : executedUnder 1 false false 0xC0000010 ≡ refusedWith 16 8 3
   -- and with a buffer too short 2, with level 4 beside it 1
   pub order : map unsettled (1 ∷ 4 ∷ []) ≡ 2 ∷ 1 ∷ []
 
@@ -152,12 +153,12 @@ pub record ExampleRun : Type 0 where
   -- E0220060 stores the row at address 0, then C0020200 takes it to Z0
   pub stores : seen (runOf (settingsAt 16 0) (0xE0220060 ∷ 0xC0020200 ∷ []) (stateAt 16 16 (set (set (xWith 12 35) 3 0) 2 0) (ones 16)) .ending) ≡
       doneWith (vectorIn (zaAt 16) 16 3 ++ drop 16 (zAt 16)) (withRow (replicate 16 0)) (vectorIn (zaAt 16) 16 3)
-  -- with X3 = 1 the store's last byte is outside memory: the run ends with 7 and its address
+  -- with X3 = 1 the store's last byte is outside memory: the run ends with 7, its address and its element
   pub address : seen (runOf (settingsAt 16 0) (0xC0020200 ∷ 0xE0220060 ∷ []) (stateAt 16 16 (set (set (xWith 12 35) 3 1) 2 0) (ones 16)) .ending) ≡
-      record { number = 7; address = 16; z = vectorIn (zaAt 16) 16 3 ++ drop 16 (zAt 16); za = withRow (replicate 16 0); memory = memoryOf 16 }
+      record { number = 7; address = 16; element = 15; z = vectorIn (zaAt 16) 16 3 ++ drop 16 (zAt 16); za = withRow (replicate 16 0); memory = memoryOf 16 }
   -- C0000010 is no instruction: the run ends with answer 3, after one word that was done, and the third word is not reached
   pub stops : (afterRun (0xC0000000 ∷ 0xC0000010 ∷ 0xC0020200 ∷ []) .words ≡ 1) ×
-      (seen (afterRun (0xC0000000 ∷ 0xC0000010 ∷ 0xC0020200 ∷ []) .ending) ≡ record { number = 3; address = 0; z = zAt 16; za = withRow (vectorIn (zAt 16) 16 0); memory = memoryOf 8 })
+      (seen (afterRun (0xC0000000 ∷ 0xC0000010 ∷ 0xC0020200 ∷ []) .ending) ≡ record { number = 3; address = 0; element = 0; z = zAt 16; za = withRow (vectorIn (zAt 16) 16 0); memory = memoryOf 8 })
 
 pub record ExamplesHold : Type 0 where
   pub words : WordsHold
@@ -179,3 +180,4 @@ pub record ExamplesHold : Type 0 where
   pub written : ExamplePlaces
   pub added : AddedHold
   pub accesses : AccessHold
+  pub elements : ElementsHold

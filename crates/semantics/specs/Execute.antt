@@ -17,12 +17,13 @@ use Rattle.encoding.specs.declared.operation.Operation.{Operation}
 use Rattle.encoding.specs.declared.operation.Operation.the-variants.{MovaToTile, MovazFromTile, MovaFromArray, MovazFromArray, St1, MovaFromTile, Ld1}
 use Rattle.encoding.specs.declared.operation.Decoded.{Decoded}
 use Rattle.encoding.specs.declared.operation.Decoded.the-variants as decoded
+use Rattle.semantics.specs.declared.answer.Fault.{Fault}
 use Rattle.semantics.specs.declared.answer.Refusal.{Refusal}
 use Rattle.semantics.specs.declared.answer.Refusal.the-variants.{BadSettings, BadLengths, Undecodable, StreamingOff, ZaOff, StackMisaligned, OutsideMemory}
 use Rattle.semantics.specs.declared.answer.Executed.{Executed}
 use Rattle.semantics.specs.declared.answer.Executed.the-variants.{Done, Refused}
 use Rattle.semantics.specs.State.{State, Public, publicOf}
-use Rattle.semantics.specs.Access.{baseOf, addressOf, inMemory}
+use Rattle.semantics.specs.Access.{baseOf, addressOf, elementOf, inMemory}
 use Rattle.semantics.specs.Effect.{activeUnder, effectOf}
 
 -- ---- the answer
@@ -54,9 +55,13 @@ module _ (s : Settings) (x p : List ℕ) (lm : ℕ) where
   abbrev pub faultOf : SliceAccess → Option ℕ
   faultOf o = least (faulting o) (s .«vector_bytes»)
 
+  -- what is told of it: its address, and its element (request 6)
+  abbrev pub faultAt : SliceAccess → ℕ → Fault
+  faultAt o k = record { address = addressOf x o k; element = elementOf o k }
+
   abbrev pub faultAnswer : SliceAccess → Option ℕ → Executed
   faultAnswer o none = Done
-  faultAnswer o (some k) = Refused (OutsideMemory (addressOf x o k))
+  faultAnswer o (some k) = Refused (OutsideMemory (faultAt o k))
 
   -- the stack pointer is the base, some element is active, and the stack pointer is no multiple of 16
   abbrev pub misaligned : SliceAccess → Bool

@@ -14,5 +14,6 @@ pub mod Steps
 pub mod ExampleBuffers
 pub mod AddedExamples
 pub mod AccessExamples
+pub mod ElementExamples
 pub mod PlaceExamples
 pub mod Examples

@@ -17,7 +17,7 @@ use Rattle.encoding.specs.declared.operation.Operation.the-variants.{MovaToTile
 use Rattle.encoding.specs.declared.operation.Decoded.{Decoded}
 use Rattle.encoding.specs.declared.operation.Decoded.the-variants.{Done, BadLevel, Undecodable}
 use Rattle.semantics.specs.State.{Public}
-use Rattle.semantics.specs.Access.{addressOf}
+use Rattle.semantics.specs.Access.{addressOf, elementOf}
 use Rattle.semantics.specs.Execute.{validLengths, faultOf, stackBad}
 
 -- a line of the table: whether it applies, and its answer
@@ -59,15 +59,15 @@ module _ (s : Settings) (u : Public) where
   faultIn none = none
   faultIn (some o) = faultOf s (u .x) (u .p) (u .memoryLength) o
 
-  -- the address of byte k
-  abbrev pub addressAmong : Option SliceAccess → Option ℕ → List ℕ
-  addressAmong none k = []
-  addressAmong (some o) none = []
-  addressAmong (some o) (some k) = addressOf (u .x) o k ∷ []
+  -- the address of byte k, and its element
+  abbrev pub faultValues : Option SliceAccess → Option ℕ → List ℕ
+  faultValues none k = []
+  faultValues (some o) none = []
+  faultValues (some o) (some k) = addressOf (u .x) o k ∷ elementOf o k ∷ []
 
   -- the last two lines
   abbrev pub accessLines : Option SliceAccess → List AnswerLine
-  accessLines a = lineWith (stackIsBad a) stackMisaligned [] ∷ lineWith (isSome (faultIn a)) outsideMemory (addressAmong a (faultIn a)) ∷ []
+  accessLines a = lineWith (stackIsBad a) stackMisaligned [] ∷ lineWith (isSome (faultIn a)) outsideMemory (faultValues a (faultIn a)) ∷ []
 
   -- those that look at the word
   abbrev pub wordLines : Decoded → List AnswerLine

@@ -1,6 +1,6 @@
 -- When each answer is given: each row of the table of 01 §6, as docs/RULES.md has it, is a proposition of its own in the table's words, and an answer
 -- is given exactly if its own holds and none before it does. specs/Execute.antt has a chain of tests, specs/Lines.antt a list of them.
--- To believe: that these are the table's rows. Of the definitions of execution it uses `executeOf`, its number and address, and, for a word that decodes, `decodeOf`; what an
+-- To believe: that these are the table's rows. Of the definitions of execution it uses `executeOf`, its number, address and element, and, for a word that decodes, `decodeOf`; what an
 -- active element and an address are is said in specs/Operations.antt.
 -- Assumes nothing.
 use Prim.Native.Nat.{ℕ, zero, suc, _+_, _*_, _/_, _%_, _^_, _<_, _≤_}
@@ -17,7 +17,7 @@ use Rattle.encoding.specs.declared.operation.SliceAccess.{SliceAccess}
 use Rattle.encoding.specs.declared.operation.Operation.{Operation}
 use Rattle.encoding.specs.declared.operation.Operation.the-variants.{St1, Ld1}
 use Rattle.encoding.specs.declared.operation.Decoded.the-variants.{Done}
-use Rattle.semantics.specs.Answer.{executedNumber, executedAddress}
+use Rattle.semantics.specs.Answer.{executedNumber, executedFault}
 use Rattle.semantics.specs.State.{State}
 use Rattle.semantics.specs.Execute.{executeOf}
 use Rattle.semantics.specs.Operations.{elementsIn, Active, addressIn}
@@ -91,21 +91,22 @@ module _ (s : Settings) (w : ℕ) (t : State) where
     pub done : given ≡ 0 → (n : ℕ) → ReasonAt reasons n → ⊥
     pub none : ((n : ℕ) → ReasonAt reasons n → ⊥) → given ≡ 0
 
-  -- the address that 7 carries: that of the first byte outside memory (least i) of the lowest-numbered such element
+  -- what 7 carries: the lowest-numbered active element with a byte outside memory (request 6), and the address of its first such byte (least i)
   pub record FirstOutside : Type 0 where
     pub first : ByteOutside
-    pub told : executedAddress (executeOf s w t .answer) ≡ addressIn (t .x) (first .access) (first .element) (first .byte)
-    pub element : (e i : ℕ) → e < first .element → i < bytesOf (first .access .slice .size) → Active s t (first .access .slice) (first .access .pg) e → NotInMemory (addressIn (t .x) (first .access) e i) → ⊥
-    pub byte : (i : ℕ) → i < first .byte → NotInMemory (addressIn (t .x) (first .access) (first .element) i) → ⊥
+    pub toldElement : executedFault (executeOf s w t .answer) .element ≡ first .element
+    pub toldAddress : executedFault (executeOf s w t .answer) .address ≡ addressIn (t .x) (first .access) (first .element) (first .byte)
+    pub noLowerElement : (e i : ℕ) → e < first .element → i < bytesOf (first .access .slice .size) → Active s t (first .access .slice) (first .access .pg) e → NotInMemory (addressIn (t .x) (first .access) e i) → ⊥
+    pub noEarlierByte : (i : ℕ) → i < first .byte → NotInMemory (addressIn (t .x) (first .access) (first .element) i) → ⊥
 
-  -- and every other answer carries 0
-  pub record AddressTold : Type 0 where
+  -- and every other answer carries address 0 and element 0
+  pub record FaultTold : Type 0 where
     pub seven : given ≡ 7 → FirstOutside
-    pub zero : (given ≡ 7 → ⊥) → executedAddress (executeOf s w t .answer) ≡ 0
+    pub zero : (given ≡ 7 → ⊥) → (executedFault (executeOf s w t .answer) .address ≡ 0) × (executedFault (executeOf s w t .answer) .element ≡ 0)
 
   -- a refusal changes no buffer
   abbrev pub RefusalKeeps : Type 0
   RefusalKeeps = (given ≡ 0 → ⊥) → executeOf s w t .state ≡ t
 
 abbrev pub AnswersExactly : Type 0
-AnswersExactly = (s : Settings) (w : ℕ) (t : State) → GivenExactly s w t × AddressTold s w t × RefusalKeeps s w t
+AnswersExactly = (s : Settings) (w : ℕ) (t : State) → GivenExactly s w t × FaultTold s w t × RefusalKeeps s w t

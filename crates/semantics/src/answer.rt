@@ -1,8 +1,15 @@
 // The answer of one execution (document 01 §6).
 ghost use mathlib.Core.Path.{_≡_};
-ghost use Rattle.semantics.specs.Answer.{refusalNumber, refusalAddress, executedNumber, executedAddress};
+ghost use Rattle.semantics.specs.Answer.{refusalNumber, refusalFault, executedNumber, executedFault};
 
-// Why nothing was done. OutsideMemory carries the address of the first byte of an active element that is not in memory.
+// Where a load or store leaves memory: the address of the first byte that is not in memory, of the lowest-numbered active
+// element that has one, and the number of that element (request 6).
+pub struct Fault {
+    pub address: u64,
+    pub element: u64,
+}
+
+// Why nothing was done.
 pub enum Refusal {
     BadSettings,
     BadLengths,
@@ -10,7 +17,7 @@ pub enum Refusal {
     StreamingOff,
     ZaOff,
     StackMisaligned,
-    OutsideMemory(u64),
+    OutsideMemory(Fault),
 }
 
 pub enum Executed {
@@ -34,18 +41,16 @@ impl Refusal {
         }
     }
 
-    // The address that answer 7 carries, 0 with every other.
-    pub fn address(self) -> u64
-        ensures { λ r. ⌜ r ≡ refusalAddress self ⌝ }
+    // What answer 7 carries, zeros with every other (request 6).
+    pub fn fault(self) -> Fault
+        ensures { λ r. ⌜ r ≡ refusalFault self ⌝ }
     {
         match self {
-            Refusal::BadSettings => 0,
-            Refusal::BadLengths => 0,
-            Refusal::Undecodable => 0,
-            Refusal::StreamingOff => 0,
-            Refusal::ZaOff => 0,
-            Refusal::StackMisaligned => 0,
-            Refusal::OutsideMemory(address) => address,
+            Refusal::OutsideMemory(fault) => fault,
+            _ => Fault {
+                address: 0,
+                element: 0,
+            },
         }
     }
 }
@@ -61,13 +66,16 @@ impl Executed {
         }
     }
 
-    // The address that answer 7 carries, 0 with every other.
-    pub fn address(self) -> u64
-        ensures { λ r. ⌜ r ≡ executedAddress self ⌝ }
+    // What answer 7 carries, zeros with every other (request 6).
+    pub fn fault(self) -> Fault
+        ensures { λ r. ⌜ r ≡ executedFault self ⌝ }
     {
         match self {
-            Executed::Done => 0,
-            Executed::Refused(refusal) => refusal.address(),
+            Executed::Done => Fault {
+                address: 0,
+                element: 0,
+            },
+            Executed::Refused(refusal) => refusal.fault(),
         }
     }
 }

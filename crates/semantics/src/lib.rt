@@ -3,4 +3,5 @@
 mod answer;
 
 pub use answer::Executed;
+pub use answer::Fault;
 pub use answer::Refusal;

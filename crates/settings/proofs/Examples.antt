@@ -43,6 +43,6 @@ settings-examples-hold = record {
   unlaid = λ r ls′ p i. p .number i ∷ p .lengths i;
   answers = refl;
   numbers = refl;
-  first = refl;
+  values = refl;
   none = refl;
 }

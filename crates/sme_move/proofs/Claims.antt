@@ -11,14 +11,14 @@ use lib.ListN.{length, getD}
 use borrow.Author.Tests.{eq-eqb, ne-eqb}
 use Rattle.general.specs.Determined.{IsOneOf}
 use Rattle.general.proofs.DeterminedLaws.{equal-determines, one-of-test, other-number}
-use Rattle.settings.specs.Answer.{Answer, answerWith, firstValue, done, badSettings}
+use Rattle.settings.specs.Answer.{Answer, answerWith, valueAt, done, badSettings}
 use Rattle.settings.specs.Settings.{validVectors, validSettings, lengthsOf, lengthNumbers}
 use Rattle.settings.specs.Lent.{settingsIn}
 use Rattle.settings.specs.declared.Settings.{Settings}
 use Rattle.settings.proofs.Claims.{vectors-fit, passed, lent-settings}
 use Rattle.encoding.specs.Codec.{decodeAnswer, encodeAnswer}
 use Rattle.encoding.proofs.AnswerLaws.{decode-answered, encode-answered}
-use Rattle.semantics.specs.Answer.{executedNumber, executedAddress}
+use Rattle.semantics.specs.Answer.{executedNumber}
 use Rattle.semantics.specs.State.{State, publicOf}
 use Rattle.semantics.specs.Lines.{answerInNumbers}
 use Rattle.semantics.specs.Execute.{executeOf}
@@ -26,7 +26,7 @@ use Rattle.semantics.specs.declared.answer.Refusal.{Refusal}
 use Rattle.semantics.specs.declared.answer.Refusal.the-variants.{BadSettings, BadLengths, Undecodable, StreamingOff, ZaOff, StackMisaligned, OutsideMemory}
 use Rattle.semantics.specs.declared.answer.Executed.{Executed}
 use Rattle.semantics.specs.declared.answer.Executed.the-variants.{Done, Refused}
-use Rattle.semantics.proofs.Claims.{definition-executes, executing-determines}
+use Rattle.semantics.proofs.Claims.{definition-executes, executing-determines, answers-exactly}
 use Rattle.sme_move.specs.Export.{filled, resultNumbers, Exports, fieldsAfter, DecodeExports, EncodeExports, LengthExports}
 use Rattle.sme_move.specs.Claims.{ExportsDetermine, FilledIs, DecodeExportsDetermine, EncodeExportsDetermine, LengthExportsDetermine, AnswersNoMachine, ExportsAllDetermine}
 
@@ -39,24 +39,24 @@ refusal-numbers Undecodable = inr (inr (inr (inl refl)))
 refusal-numbers StreamingOff = inr (inr (inr (inr (inl refl))))
 refusal-numbers ZaOff = inr (inr (inr (inr (inr (inl refl)))))
 refusal-numbers StackMisaligned = inr (inr (inr (inr (inr (inr (inl refl))))))
-refusal-numbers (OutsideMemory a) = inr (inr (inr (inr (inr (inr (inr (inl refl)))))))
+refusal-numbers (OutsideMemory f) = inr (inr (inr (inr (inr (inr (inr (inl refl)))))))
 
 executed-numbers : (e : Executed) → IsOneOf (0 ∷ 1 ∷ 2 ∷ 3 ∷ 4 ∷ 5 ∷ 6 ∷ 7 ∷ []) (executedNumber e)
 executed-numbers Done = inl refl
 executed-numbers (Refused r) = refusal-numbers r
 
-refusal-address : (r : Refusal) → (executedNumber (Refused r) ≡ 7 → ⊥) → executedAddress (Refused r) ≡ 0
-refusal-address BadSettings n = refl
-refusal-address BadLengths n = refl
-refusal-address Undecodable n = refl
-refusal-address StreamingOff n = refl
-refusal-address ZaOff n = refl
-refusal-address StackMisaligned n = refl
-refusal-address (OutsideMemory a) n = absurd (n refl)
+refusal-zeros : (r : Refusal) → (executedNumber (Refused r) ≡ 7 → ⊥) → resultNumbers (Refused r) ≡ 0 ∷ 0 ∷ []
+refusal-zeros BadSettings n = refl
+refusal-zeros BadLengths n = refl
+refusal-zeros Undecodable n = refl
+refusal-zeros StreamingOff n = refl
+refusal-zeros ZaOff n = refl
+refusal-zeros StackMisaligned n = refl
+refusal-zeros (OutsideMemory f) n = absurd (n refl)
 
-executed-address : (e : Executed) → (executedNumber e ≡ 7 → ⊥) → executedAddress e ≡ 0
-executed-address Done n = refl
-executed-address (Refused r) n = refusal-address r n
+executed-zeros : (e : Executed) → (executedNumber e ≡ 7 → ⊥) → resultNumbers e ≡ 0 ∷ 0 ∷ []
+executed-zeros Done n = refl
+executed-zeros (Refused r) n = refusal-zeros r n
 
 exports-determine : (s : Settings) (w : ℕ) (t : State) (rs : List ℕ) → ExportsDetermine s w t rs
 exports-determine s w t rs = record {
@@ -65,9 +65,13 @@ exports-determine s w t rs = record {
       (λ o p i. (number p i, (p .results ∙ ap (λ (e : Executed). filled (resultNumbers e) rs) (p .executes .answer)) i, p .executes .state i));
   numbers = λ r rs′ t′ p. subst (IsOneOf (0 ∷ 1 ∷ 2 ∷ 3 ∷ 4 ∷ 5 ∷ 6 ∷ 7 ∷ [])) (sym (p .number)) (executed-numbers (p .answer));
   table = λ r rs′ t′ p.
-      (p .number ∙ ap (λ (a : Answer). a .number) (p .executes .numbers), p .results ∙ ap (λ (a : Answer). filled (firstValue a ∷ []) rs) (p .executes .numbers));
+      (p .number ∙ ap (λ (a : Answer). a .number) (p .executes .numbers), p .results ∙ ap (λ (a : Answer). filled (valueAt a 0 ∷ valueAt a 1 ∷ []) rs) (p .executes .numbers));
   refused = λ r rs′ t′ p n. executing-determines s w t .refused (p .answer) t′ (p .executes) (λ e. n (p .number ∙ e));
-  address = λ r rs′ t′ p n. p .results ∙ ap (λ (a : ℕ). filled (a ∷ []) rs) (executed-address (p .answer) (λ e. n (p .number ∙ e)));
+  outside = λ r rs′ t′ p e.
+      let given = p .executes .answer in
+      let o = answers-exactly s w t .1 .seven (sym (p .number ∙ ap executedNumber given) ∙ e) in
+      (o, p .results ∙ ap (λ (a : Executed). filled (resultNumbers a) rs) given ∙ (λ i. filled (o .toldAddress i ∷ o .toldElement i ∷ []) rs));
+  zeros = λ r rs′ t′ p n. p .results ∙ ap (λ (ns : List ℕ). filled ns rs) (executed-zeros (p .answer) (λ e. n (p .number ∙ e)));
 }
   where
     a : Executed
@@ -109,7 +113,7 @@ decode-exports-determine w level f = record {
 
 encode-exports-determine : (f : List ℕ) → EncodeExportsDetermine f
 encode-exports-determine f = record {
-  determined = equal-determines (λ (o : ℕ × ℕ). EncodeExports f (o .0) (o .1)) (encodeAnswer f .number, firstValue (encodeAnswer f)) (λ o p i. (p .number i, p .word i));
+  determined = equal-determines (λ (o : ℕ × ℕ). EncodeExports f (o .0) (o .1)) (encodeAnswer f .number, valueAt (encodeAnswer f) 0) (λ o p i. (p .number i, p .word i));
   numbers = λ r w p. subst (IsOneOf (0 ∷ 8 ∷ [])) (sym (p .number)) (encode-answered f .number);
   table = λ r w p. (p .number, p .word);
   refused = λ r w p n. p .word ∙ ap (λ (vs : List ℕ). getD vs 0 0) (encode-answered f .values (λ e. n (p .number ∙ e)));
@@ -143,7 +147,7 @@ no-machine s e f = record {
   executes = λ w t rs r rs′ t′ p.
       let q = exports-determine s w t rs in
       let one = q .table r rs′ t′ p .0 ∙ ap (λ (a : Answer). a .number) (bad-settings w t) in
-      (one, q .address r rs′ t′ p (λ g. omega (arith, one, g)), q .refused r rs′ t′ p (λ g. omega (arith, one, g)));
+      (one, q .zeros r rs′ t′ p (λ g. omega (arith, one, g)), q .refused r rs′ t′ p (λ g. omega (arith, one, g)));
   checks = rw e;
   lengths = λ l r l′ p. (p .number ∙ rw f, p .lengths ∙ rw f);
 }

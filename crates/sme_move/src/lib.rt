@@ -1,6 +1,7 @@
 // What hosts link: functions over numbers and slices, which only call the crates below. Settings and results are arrays with a count,
 // so that a later one changes no function here (docs/DECISIONS.md).
 ghost use mathlib.Core.Path.{_≡_};
+ghost use lib.ListN.{set};
 ghost use Rattle.settings.specs.Settings.{checkNumber};
 ghost use Rattle.settings.specs.Lent.{settingsIn};
 ghost use Rattle.semantics.specs.State.{stateOf};
@@ -15,26 +16,42 @@ use encoding::Decoded;
 pub extern "C" fn sme_version_0_5() -> u32
     ensures { λ r. ⌜ r ≡ version ⌝ }
 {
-    7
+    8
 }
 
 #[no_mangle]
 pub extern "C" fn sme_version_0_6() -> u32
     ensures { λ r. ⌜ r ≡ version ⌝ }
 {
-    7
+    8
 }
 
 #[no_mangle]
 pub extern "C" fn sme_version_0_7() -> u32
     ensures { λ r. ⌜ r ≡ version ⌝ }
 {
-    7
+    8
+}
+
+#[no_mangle]
+pub extern "C" fn sme_version_0_8() -> u32
+    ensures { λ r. ⌜ r ≡ version ⌝ }
+{
+    8
+}
+
+// Writes a result where a host's array has a place for it.
+fn put_result(results: &mut [u64], place: usize, number: u64)
+    ensures { λ _. ⌜ now (results .exit) ≡ set (now (results .entry)) place number ⌝ }
+{
+    if place < results.len() {
+        results[place] = number;
+    }
 }
 
 // Executes one instruction word on the buffers that are lent, and returns the answer's number
-// (document 01 §6). The result is the address that answer 7 carries, 0 with every other; it is written where `results` has a place
-// for it. A refusal changes no buffer.
+// (document 01 §6). The results are the address and the element that answer 7 carries, zeros with every other (request 6); each is
+// written where `results` has a place for it. A refusal changes no buffer.
 #[no_mangle]
 pub extern "C" fn sme_execute_word(
     given: &[u64],
@@ -50,12 +67,11 @@ pub extern "C" fn sme_execute_word(
 {
     let settings = settings::settings_in(given);
     let answer = execute::execute(settings, word, x, z, p, za, memory);
-    // Both are known before the test, which then costs one jump and not one on each way out.
+    // Both are known before the tests, which then cost a jump each and not one on each way out.
     let number = answer.number();
-    let address = answer.address();
-    if 0 < results.len() {
-        results[0] = address;
-    }
+    let fault = answer.fault();
+    put_result(results, 0, fault.address);
+    put_result(results, 1, fault.element);
     number
 }
 

@@ -47,9 +47,10 @@ impl ElementSize {
     }
 }
 
-// How many elements a vector has.
-pub fn elements_in(vector_bytes: usize, size: ElementSize) -> usize
-    ensures { λ r. ⌜ r ≡ «vector_bytes» / bytesOf size ⌝ }
+// How many whole elements so many bytes have: all those of a vector, or those before the element that a byte is of, which is
+// that element's number.
+pub fn elements_in(bytes: usize, size: ElementSize) -> usize
+    ensures { λ r. ⌜ r ≡ bytes / bytesOf size ⌝ }
 {
-    vector_bytes >> size.doublings()
+    bytes >> size.doublings()
 }

@@ -5,8 +5,11 @@ use second::execute::{execute_with, Buffers, Mistake, Settings};
 use sme_move::numbers;
 use std::hint::black_box;
 
+/// The number, the address and the element of an answer.
+pub type Answered = (u32, u64, u64);
+
 /// A function that executes a word, as the binding has it.
-pub type Function = fn(sme_move::Settings, u32, sme_move::Buffers<'_>) -> (u32, u64);
+pub type Function = fn(sme_move::Settings, u32, sme_move::Buffers<'_>) -> Answered;
 
 /// A state and a word. The buffers are used again for the next case, so
 /// that no case has to ask for room.
@@ -49,6 +52,7 @@ impl Case {
 pub struct Outcome {
     pub answer: u32,
     pub address: u64,
+    pub element: u64,
     pub x: Vec<u64>,
     pub z: Vec<u8>,
     pub p: Vec<u8>,
@@ -67,7 +71,8 @@ impl Outcome {
             za: &mut self.za,
             memory: &mut self.memory,
         };
-        (self.answer, self.address) = execute_with(mistake, &case.settings, case.word, buffers);
+        let answered = execute_with(mistake, &case.settings, case.word, buffers);
+        (self.answer, self.address, self.element) = answered;
     }
 
     /// Runs the case through the archive.
@@ -101,7 +106,7 @@ impl Outcome {
             memory: &mut self.memory,
         };
         let settings = archive_settings(&case.settings);
-        (self.answer, self.address) = unit(settings, case.word, buffers);
+        (self.answer, self.address, self.element) = unit(settings, case.word, buffers);
         black_box((&mut self.x, &mut self.p));
     }
 
@@ -120,6 +125,7 @@ impl Outcome {
     pub fn agrees(&self, other: &Outcome) -> bool {
         self.answer == other.answer
             && self.address == other.address
+            && self.element == other.element
             && self.x == other.x
             && self.p == other.p
             && self.z == other.z

@@ -2,6 +2,7 @@
 
 use crate::accesses::Accesses;
 use crate::case::{Case, Outcome};
+use crate::elements::Elements;
 use crate::pairs::PAIRS;
 use crate::paths::Paths;
 use crate::rows::Drawn;
@@ -26,6 +27,7 @@ pub struct Counts {
     table: Table,
     situations: Situations,
     accesses: Accesses,
+    elements: Elements,
     paths: Paths,
 }
 
@@ -45,6 +47,7 @@ impl Counts {
             table: Table::new(drawn),
             situations: Situations::new(drawn),
             accesses: Accesses::default(),
+            elements: Elements::new(drawn),
             paths: Paths::new(drawn),
         }
     }
@@ -56,6 +59,7 @@ impl Counts {
         let view = View::new(case, outcome);
         self.situations.add(&view);
         self.accesses.add(&view);
+        self.elements.add(&view);
         self.paths.add(&view);
     }
 
@@ -65,6 +69,7 @@ impl Counts {
         self.table.merge(other.table);
         self.situations.merge(other.situations);
         self.accesses.merge(&other.accesses);
+        self.elements.merge(other.elements);
         self.paths.merge(&other.paths);
     }
 
@@ -88,9 +93,11 @@ impl Counts {
 
     fn complaints(&self) -> Vec<String> {
         let mut complaints = self.table.impossible();
+        complaints.extend_from_slice(self.elements.impossible());
         if self.cases >= enough(self.drawn) {
             complaints.extend(self.table.missing());
             complaints.extend(self.situations.missing());
+            complaints.extend(self.elements.missing());
             complaints.extend(self.paths.missing());
         }
         complaints
@@ -114,7 +121,7 @@ impl Display for Counts {
             writeln!(f, "{pair}: {cases} cases, {done} done")?;
         }
         if self.drawn.has_access() {
-            writeln!(f, "{}", self.accesses)?;
+            write!(f, "{}\n{}", self.accesses, self.elements)?;
         }
         write!(f, "{}", self.paths)
     }

@@ -48,6 +48,15 @@ impl Display for Difference {
         writeln!(f, "DIFFERENCE in case {}: {}", self.number, self.sides.what)?;
         self.write_settings(f)?;
         self.write_word(f)?;
+        self.write_answers(f)?;
+        self.write_registers(f)?;
+        self.write_buffers(f)
+    }
+}
+
+impl Difference {
+    /// What was answered on both sides, the same or not.
+    fn write_answers(&self, f: &mut Formatter) -> fmt::Result {
         let (wanted, found) = (&self.wanted, &self.found);
         let [one, other] = self.sides.names;
         writeln!(
@@ -60,12 +69,13 @@ impl Display for Difference {
             "address: {one} {:016X}, {other} {:016X}",
             wanted.address, found.address
         )?;
-        self.write_registers(f)?;
-        self.write_buffers(f)
+        writeln!(
+            f,
+            "element: {one} {}, {other} {}",
+            wanted.element, found.element
+        )
     }
-}
 
-impl Difference {
     fn write_settings(&self, f: &mut Formatter) -> fmt::Result {
         let case = &self.case;
         let settings = &case.settings;

@@ -9,8 +9,11 @@ use sme_move::{Direction, Kind, Refusal};
 /// 'Done', or why not.
 pub type Answer = Result<(), Refusal>;
 
-/// Answer 7, for those who do not ask for its address.
-pub const FAULT: Refusal = Refusal::OutsideMemory { address: 0 };
+/// Answer 7, for those who do not ask for its address and its element.
+pub const FAULT: Refusal = Refusal::OutsideMemory {
+    address: 0,
+    element: 0,
+};
 
 /// Both directions, and how they are called.
 pub const WAYS: [(Direction, &str); 2] = [

@@ -64,6 +64,7 @@ impl Outcomes {
 #[cfg(test)]
 mod tests {
     use super::*;
+    use crate::case::Answered;
     use crate::difference::Difference;
     use crate::worked::case_within;
     use sme_move::{numbers, Buffers, Settings};
@@ -98,7 +99,7 @@ mod tests {
 
     /// The unit does what the right one does, and clears bytes beyond in the
     /// register.
-    fn clearing(settings: Settings, word: u32, buffers: Buffers<'_>) -> (u32, u64) {
+    fn clearing(settings: Settings, word: u32, buffers: Buffers<'_>) -> Answered {
         buffers.z[16..64].fill(0);
         numbers::execute(settings, word, buffers)
     }
@@ -126,7 +127,7 @@ mod tests {
 
     /// The unit answers 5 where the first byte of P beyond is zero, which it
     /// is not in the case.
-    fn looking(mut settings: Settings, word: u32, buffers: Buffers<'_>) -> (u32, u64) {
+    fn looking(mut settings: Settings, word: u32, buffers: Buffers<'_>) -> Answered {
         settings.za = buffers.p[2] != 0;
         numbers::execute(settings, word, buffers)
     }
@@ -168,5 +169,29 @@ mod tests {
         assert!(told.starts_with("DIFFERENCE in case 1: the two programs differ\n"));
         assert!(told.contains("answer: second 0, archive 0"));
         assert!(told.contains("\n  second  "));
+    }
+
+    /// The element alone is enough of a difference, between the programs and
+    /// by what is beyond.
+    #[test]
+    fn another_element_is_told() {
+        let (sides, told) = told(numbers::execute, Mistake::ElementLeftOver);
+        assert_eq!(sides, Sides::PROGRAMS);
+        assert!(told.contains("\nelement: second 3, archive 0\n"));
+        assert!(!told.contains("bytes differ"));
+    }
+
+    /// The unit tells an element where the first byte of P beyond is zero.
+    fn telling(settings: Settings, word: u32, buffers: Buffers<'_>) -> Answered {
+        let element = u64::from(buffers.p[2] == 0);
+        let (answer, address, _) = numbers::execute(settings, word, buffers);
+        (answer, address, element)
+    }
+
+    #[test]
+    fn an_element_by_bytes_beyond_is_told() {
+        let (sides, told) = told(telling, Mistake::None);
+        assert_eq!(sides, Sides::BEYOND_MATTERS);
+        assert!(told.contains("\nelement: archive 0, inverted 1\n"));
     }
 }

@@ -249,7 +249,7 @@ impl Line<'_> {
             let row = TABLE.get(self.row);
             row.is_some_and(|own| is_access(own.kind()))
         };
-        match Refusal::of_number(answer as u32, 0) {
+        match Refusal::of_number(answer as u32, 0, 0) {
             Some(Refusal::BadSettings | Refusal::BadLengths | Refusal::Undecodable) => true,
             Some(Refusal::StackMisaligned) => self.stack_check && access(),
             Some(Refusal::OutsideMemory { .. }) => access(),

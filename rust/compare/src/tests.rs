@@ -468,9 +468,10 @@ fn worked_examples_are_held_to_each_part() {
             outcome
         };
         assert_eq!(worked.hold("second", &right()), Ok(()));
-        let spoils: [fn(&mut Outcome); 7] = [
+        let spoils: [fn(&mut Outcome); 8] = [
             |own| own.answer ^= 1,
             |own| own.address ^= 1,
+            |own| own.element ^= 1,
             |own| own.x[7] ^= 1,
             |own| own.z[7] ^= 1,
             |own| own.p[7] ^= 1,
@@ -485,8 +486,8 @@ fn worked_examples_are_held_to_each_part() {
     }
 }
 
-/// Each mistake about loads and stores, or about where vectors lie, is one
-/// that a worked example tells.
+/// Each mistake about loads and stores, about where vectors lie, or about the
+/// element is one that a worked example tells.
 #[test]
 fn worked_examples_tell_mistakes() {
     for mistake in [
@@ -515,6 +516,14 @@ fn worked_examples_tell_mistakes() {
         Mistake::BeyondCleared,
         Mistake::GroupsByLargest,
         Mistake::SlicesByLargest,
+        Mistake::ElementAsByteOfSlice,
+        Mistake::ElementAsByte,
+        Mistake::ElementAsVector,
+        Mistake::ElementFirstActive,
+        Mistake::ElementAmongActive,
+        Mistake::ElementInactive,
+        Mistake::ElementLowestInMemory,
+        Mistake::ElementLeftOver,
     ] {
         let told = |worked: &worked::Worked| {
             let mut outcome = Outcome::default();

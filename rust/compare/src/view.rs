@@ -16,6 +16,7 @@ pub struct View<'a> {
     /// The answer's number.
     answer: u32,
     pub address: u64,
+    pub element: u64,
     /// The buffers after the call.
     pub after: &'a Outcome,
     /// What the word decodes to at the highest level.
@@ -31,13 +32,14 @@ impl<'a> View<'a> {
             case,
             answer: outcome.answer,
             address: outcome.address,
+            element: outcome.element,
             after: outcome,
             operation,
             active: operation.map_or(Vec::new(), |own| active(case, &own)),
         }
     }
 
-    /// Whether this is the answer, whatever address goes with it.
+    /// Whether this is the answer, whatever goes with it.
     pub fn answered(&self, answer: Answer) -> bool {
         self.answer == names::number(answer)
     }
@@ -171,8 +173,8 @@ impl<'a> View<'a> {
         self.last_address().is_some_and(|last| last < self.start())
     }
 
-    /// The element that answer 7 tells of, and the number of its byte whose
-    /// address it carries.
+    /// The element that the address of answer 7 is in, which must be the one
+    /// that it tells, and the number of the element's byte that has it.
     pub fn fault(&self) -> Option<(usize, u128)> {
         if !self.refused(FAULT) {
             return None;

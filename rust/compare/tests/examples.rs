@@ -22,7 +22,10 @@ fn example_12_both_switches_off() {
     case.settings.streaming = false;
     case.settings.za_on = false;
     let outcome = both(&case);
-    assert_eq!((outcome.answer, outcome.address), (4, 0));
+    assert_eq!(
+        (outcome.answer, outcome.address, outcome.element),
+        (4, 0, 0)
+    );
     assert!(outcome.z == case.z && outcome.za == case.za);
 }
 
@@ -39,7 +42,7 @@ fn example_13_bits_that_are_not_looked_at() {
     assert!(outcome.za[4..] == case.za[4..]);
 }
 
-/// Those of loads and stores, with answer, address and every byte written out.
+/// Those of loads and stores, with answer, address, element and every byte written out.
 #[test]
 fn loads_and_stores_are_as_written_out() {
     for example in worked::list() {

@@ -68,11 +68,11 @@ mod tests {
         ] {
             let address = first_address(access(word), &state.x);
             let answer = state.execute(settings, word, &mut []);
-            assert_eq!(
-                answer,
-                Err(Refusal::OutsideMemory { address }),
-                "{word:08X}"
-            );
+            let outside = Refusal::OutsideMemory {
+                address,
+                element: 0,
+            };
+            assert_eq!(answer, Err(outside), "{word:08X}");
         }
     }
 }

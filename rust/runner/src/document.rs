@@ -96,6 +96,7 @@ fn word(executed: &Executed, machine: &Machine) -> Json {
     let execution = executed.execution;
     let operation = execution.operation.ok();
     let changes = changes::of(execution, machine);
+    let [address, element] = carried(execution.answer);
     Json::Object(vec![
         ("number", Json::Number(executed.number)),
         ("line", Json::Number(executed.line)),
@@ -113,7 +114,8 @@ fn word(executed: &Executed, machine: &Machine) -> Json {
         ),
         ("answer", Json::Number(number(execution.answer))),
         ("answer_text", Json::text(answer_text(execution))),
-        ("address", address(execution.answer)),
+        ("address", address),
+        ("element", element),
         ("changed", Json::List(changes.iter().map(change).collect())),
         ("failure", Json::of(executed.failure.clone(), Json::Text)),
     ])
@@ -156,11 +158,13 @@ fn answer_text(execution: &Execution) -> String {
     }
 }
 
-/// The address that answer 7 carries.
-fn address(answer: Result<(), Refusal>) -> Json {
+/// The address and the element that answer 7 carries.
+fn carried(answer: Result<(), Refusal>) -> [Json; 2] {
     match answer {
-        Err(Refusal::OutsideMemory { address }) => Json::address(address),
-        _ => Json::Null,
+        Err(Refusal::OutsideMemory { address, element }) => {
+            [Json::address(address), Json::Number(element as usize)]
+        }
+        _ => [Json::Null, Json::Null],
     }
 }
 
@@ -214,22 +218,28 @@ fn differing(expectation: &Expectation, difference: &Difference) -> Json {
             ("expected", Json::bytes(bytes)),
             ("found", Json::bytes(found)),
         ]),
-        (Expectation::Answer(expected), Difference::Answer(found)) => Json::Object(vec![
-            ("expected", Json::Number(expected.number() as usize)),
-            ("expected_address", expected_address(*expected)),
-            ("found", Json::Number(number(*found))),
-            ("found_address", address(*found)),
-        ]),
+        (Expectation::Answer(expected), Difference::Answer(found)) => {
+            differing_answers(*expected, *found)
+        }
         // A difference is always of its expectation's sort.
         _ => Json::Null,
     }
 }
 
-fn expected_address(answer: Answer) -> Json {
-    match answer {
-        Answer::Exactly(answer) => address(answer),
-        Answer::OutsideMemory => Json::Null,
-    }
+fn differing_answers(expected: Answer, found: Result<(), Refusal>) -> Json {
+    let [expected_address, expected_element] = match expected {
+        Answer::Exactly(answer) => carried(answer),
+        Answer::OutsideMemory { address } => [Json::of(address, Json::address), Json::Null],
+    };
+    let [found_address, found_element] = carried(found);
+    Json::Object(vec![
+        ("expected", Json::Number(expected.number() as usize)),
+        ("expected_address", expected_address),
+        ("expected_element", expected_element),
+        ("found", Json::Number(number(found))),
+        ("found_address", found_address),
+        ("found_element", found_element),
+    ])
 }
 
 /// What words changed, as it is at the end.

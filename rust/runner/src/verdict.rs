@@ -94,7 +94,12 @@ pub fn lines(expectation: &Expectation, difference: &Difference) -> Vec<(&'stati
 fn expected_answer(answer: Answer) -> String {
     match answer {
         Answer::Exactly(answer) => wording::answer(answer),
-        Answer::OutsideMemory => wording::answered(answer.number(), "an address is not in memory"),
+        Answer::OutsideMemory { address } => {
+            let address = address.map_or("an address".to_string(), |address| {
+                format!("address {address:016X}")
+            });
+            wording::answered(answer.number(), &format!("{address} is not in memory"))
+        }
     }
 }
 

@@ -230,10 +230,13 @@ mod tests {
     fn answers_have_their_numbers() {
         assert_eq!(answer(Ok(())), "0: done");
         assert_eq!(answer(Err(Refusal::ZaOff)), "5: the array is off");
-        let outside = Refusal::OutsideMemory { address: 0xFC };
+        let outside = Refusal::OutsideMemory {
+            address: 0xFC,
+            element: 3,
+        };
         assert_eq!(
             answer(Err(outside)),
-            "7: address 00000000000000FC is not in memory"
+            "7: address 00000000000000FC of element 3 is not in memory"
         );
     }
 

@@ -217,8 +217,14 @@ fn every_answer_that_a_script_can_get_is_printed() {
             "5: the array is off",
         ),
         (stack, "6: the stack pointer is no multiple of 16"),
-        (outside, "7: address 0000000000000010 is not in memory"),
-        (straddling, "7: address 0000000000000001 is not in memory"),
+        (
+            outside,
+            "7: address 0000000000000010 of element 0 is not in memory",
+        ),
+        (
+            straddling,
+            "7: address 0000000000000001 of element 0 is not in memory",
+        ),
     ] {
         assert_eq!(answer(script), format!("  answer   {expected}"));
     }

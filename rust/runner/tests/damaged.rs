@@ -19,10 +19,11 @@ use std::path::{Path, PathBuf};
 use std::time::Instant;
 use verdict::{judge, Verdict};
 
-const SCRIPTS: [&str; 20] = [
+const SCRIPTS: [&str; 21] = [
     include_str!("../example.txt"),
     include_str!("scripts/access.txt"),
     include_str!("scripts/array.txt"),
+    include_str!("scripts/fault.txt"),
     include_str!("scripts/fetch.txt"),
     include_str!("scripts/large.txt"),
     include_str!("scripts/long.txt"),

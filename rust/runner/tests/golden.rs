@@ -21,8 +21,8 @@ fn read(name: &str) -> String {
     std::fs::read_to_string(&path).unwrap_or_else(|error| panic!("{path}: {error}"))
 }
 
-const SCRIPTS: [&str; 8] = [
-    "access", "array", "fetch", "large", "long", "refused", "store", "top",
+const SCRIPTS: [&str; 9] = [
+    "access", "array", "fault", "fetch", "large", "long", "refused", "store", "top",
 ];
 
 #[test]

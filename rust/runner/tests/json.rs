@@ -11,8 +11,8 @@ use std::collections::BTreeSet;
 use std::fs;
 use std::path::{Path, PathBuf};
 
-const SCRIPTS: [&str; 8] = [
-    "access", "array", "fetch", "large", "long", "refused", "store", "top",
+const SCRIPTS: [&str; 9] = [
+    "access", "array", "fault", "fetch", "large", "long", "refused", "store", "top",
 ];
 
 const TOP: [&str; 8] = [
@@ -35,7 +35,7 @@ const SETTINGS: [&str; 8] = [
     "stack_check",
     "largest_vector_bytes",
 ];
-const WORD: [&str; 11] = [
+const WORD: [&str; 12] = [
     "number",
     "line",
     "file_byte",
@@ -45,6 +45,7 @@ const WORD: [&str; 11] = [
     "answer",
     "answer_text",
     "address",
+    "element",
     "changed",
     "failure",
 ];
@@ -63,7 +64,14 @@ const NUMBERS: [&str; 11] = [
 ];
 const EXPECTATION: [&str; 5] = ["line", "word", "about", "met", "difference"];
 const BYTES_DIFFER: [&str; 4] = ["first_byte", "bytes", "expected", "found"];
-const ANSWERS_DIFFER: [&str; 4] = ["expected", "expected_address", "found", "found_address"];
+const ANSWERS_DIFFER: [&str; 6] = [
+    "expected",
+    "expected_address",
+    "expected_element",
+    "found",
+    "found_address",
+    "found_element",
+];
 const SUMMARY: [&str; 7] = [
     "words",
     "done",
@@ -102,14 +110,13 @@ fn shape(document: &Value) {
         let met = *expectation.get("met") == Value::Bool(true);
         match expectation.get("difference") {
             Value::Null => assert!(met),
-            found => assert!(!met && [BYTES_DIFFER, ANSWERS_DIFFER].contains(&keys(found))),
+            found => {
+                let keys = found.keys();
+                assert!(!met && (keys == BYTES_DIFFER || keys == ANSWERS_DIFFER));
+            }
         }
     }
     counts(document);
-}
-
-fn keys(object: &Value) -> [&str; 4] {
-    object.keys().try_into().expect("four members")
 }
 
 /// The numbers of a word are those that it decodes to.
@@ -128,7 +135,9 @@ fn word_shape(word: &Value, level: u64) {
         (numbers, Err(_)) => panic!("{numbers:?} of a word that does not decode"),
     }
     let answer = word.get("answer").number();
-    assert_eq!(answer == 7, *word.get("address") != Value::Null);
+    for carried in ["address", "element"] {
+        assert_eq!(answer == 7, *word.get(carried) != Value::Null);
+    }
     assert!(answer == 0 || word.get("changed").list().is_empty());
 }
 
@@ -211,15 +220,39 @@ fn what_differs_is_in_the_document() {
     let document = document(output.stdout);
     let expectations = document.get("expectations").list();
     let differing = |i: usize| expectations[i].get("difference");
-    let answer = parse(
-        r#"{"expected": 7, "expected_address": "000000000000001F", "found": 3, "found_address": null}"#,
-    );
-    assert_eq!(Ok(differing(0).clone()), answer);
+    let answer = r#"{"expected": 7, "expected_address": "000000000000001F", "expected_element": null,
+                     "found": 3, "found_address": null, "found_element": null}"#;
+    assert_eq!(Ok(differing(0).clone()), parse(answer));
     assert_eq!(*differing(1), Value::Null);
     let bytes = r#"{"first_byte": 1, "bytes": 1, "expected": "01FF03", "found": "010203"}"#;
     assert_eq!(Ok(differing(2).clone()), parse(bytes));
     let failure = document.get("words").list()[1].get("failure").text();
     assert!(failure.starts_with("word 2, C0000010, is refused"));
+}
+
+/// Of a row of 4-byte elements, number 2 ends beyond memory; what is expected is told as far as the script tells it.
+#[test]
+fn the_element_that_is_outside_is_in_the_document() {
+    let script = "vector-bytes 16\nmemory 00010203 04050607 0809\npredicate 0 1111\n\
+                  word E09F0000\nexpect answer 7 A 3\nexpect answer 7 B\nexpect answer 3\n\
+                  expect answer 7 A 2\n";
+    let document = document(piped(&["-", "--json"], script.as_bytes()).stdout);
+    let word = &document.get("words").list()[0];
+    let carried = (word.get("address").text(), word.get("element").number());
+    assert_eq!(carried, ("000000000000000A", 2));
+    let text = "address 000000000000000A of element 2 is not in memory";
+    assert_eq!(word.get("answer_text").text(), text);
+    let expectations = document.get("expectations").list().iter();
+    let differences = expectations.map(|one| one.get("difference").clone());
+    let found = r#""found": 7, "found_address": "000000000000000A", "found_element": 2}"#;
+    let expected = [
+        r#"{"expected": 7, "expected_address": "000000000000000A", "expected_element": 3, "#,
+        r#"{"expected": 7, "expected_address": "000000000000000B", "expected_element": null, "#,
+        r#"{"expected": 3, "expected_address": null, "expected_element": null, "#,
+    ];
+    let expected = expected.map(|expected| parse(&format!("{expected}{found}")));
+    let expected = expected.into_iter().chain([Ok(Value::Null)]);
+    assert!(differences.map(Ok).eq(expected));
 }
 
 /// A folder for one test, empty.

@@ -73,7 +73,7 @@ fn with_the_check_off_the_stack_pointer_is_a_base_like_any_other() {
 
 #[test]
 fn with_the_check_off_the_addresses_are_still_checked() {
-    refused("stack-check off", "2000", "7 1008");
+    refused("stack-check off", "2000", "7 1008 0");
 }
 
 #[test]

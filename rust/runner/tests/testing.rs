@@ -38,7 +38,8 @@ fn brief(lines: &str, options: &[&str]) -> Output {
 
 #[test]
 fn expectations_that_are_met_are_counted() {
-    let lines = "expect answer 7 110\n\
+    let lines = "expect answer 7 110 1\n\
+                 expect answer 7 110\n\
                  expect answer 7\n\
                  expect vector 2 1111111111111111 2121212121212121\n\
                  expect array 11 0000000000000000 2222222222222222\n\
@@ -46,13 +47,13 @@ fn expectations_that_are_met_are_counted() {
                  expect tile 8:3 vertical 1 1212121212121212 2222222222222222\n\
                  expect tile 16:11 vertical 0 0000000000000000 2222222222222222\n\
                  expect memory 108 22222222 22222222\n";
-    let summary = "5 words, 4 done, 1 refused; 8 expectations, 8 met, 0 not met\n";
+    let summary = "5 words, 4 done, 1 refused; 9 expectations, 9 met, 0 not met\n";
     ends(&brief(lines, &[]), 0, summary, "");
     ends(&brief(lines, &["--strict"]), 0, summary, "");
 }
 
 /// Expectations that are not met, and what is printed of them.
-const DIFFERENCES: [(&str, &str); 6] = [
+const DIFFERENCES: [(&str, &str); 8] = [
         (
             "vector 2 1111111111111111 2121312121212122",
             "vector register 2 is not as expected\n  \
@@ -79,19 +80,31 @@ const DIFFERENCES: [(&str, &str); 6] = [
             "answer 0",
             "the answer is not as expected\n  \
              expected 0: done\n  \
-             found    7: address 0000000000000110 is not in memory\n",
+             found    7: address 0000000000000110 of element 1 is not in memory\n",
         ),
         (
             "answer 5",
             "the answer is not as expected\n  \
              expected 5: the array is off\n  \
-             found    7: address 0000000000000110 is not in memory\n",
+             found    7: address 0000000000000110 of element 1 is not in memory\n",
         ),
         (
             "answer 7 FF",
             "the answer is not as expected\n  \
              expected 7: address 00000000000000FF is not in memory\n  \
-             found    7: address 0000000000000110 is not in memory\n",
+             found    7: address 0000000000000110 of element 1 is not in memory\n",
+        ),
+        (
+            "answer 7 FF 1",
+            "the answer is not as expected\n  \
+             expected 7: address 00000000000000FF of element 1 is not in memory\n  \
+             found    7: address 0000000000000110 of element 1 is not in memory\n",
+        ),
+        (
+            "answer 7 110 0",
+            "the answer is not as expected\n  \
+             expected 7: address 0000000000000110 of element 0 is not in memory\n  \
+             found    7: address 0000000000000110 of element 1 is not in memory\n",
         ),
 ];
 
@@ -131,7 +144,7 @@ fn a_strict_run_fails_where_no_expectation_allows_a_refusal() {
     ends(&brief("", &[]), 0, summary, "");
     let failure =
         "standard input:12: word 5, E0FF0027, is refused, and no 'expect answer' allows it";
-    let answer = "  answer   7: address 0000000000000110 is not in memory";
+    let answer = "  answer   7: address 0000000000000110 of element 1 is not in memory";
     let summary = "5 words, 4 done, 1 refused (1 not allowed)\n";
     let stdout = format!("{failure}\n{answer}\n{summary}");
     ends(

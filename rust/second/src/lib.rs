@@ -1,5 +1,5 @@
-//! An independent second program for document 01 with requests 1, 2, 4, 9
-//! and 12: decodes, encodes and executes the words of nine SME instructions,
+//! An independent second program for document 01 with requests 1, 2, 4, 6,
+//! 9 and 12: decodes, encodes and executes the words of nine SME instructions,
 //! takes and gives up tiles, and prints the inputs on which it is compared
 //! with the first.
 

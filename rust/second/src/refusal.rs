@@ -1,5 +1,5 @@
-//! The refusal numbers of document 01, section 6, as requests 2, 4 and 12
-//! amend them, and those that request 9 added.
+//! The refusal numbers of document 01, section 6, as requests 2, 4, 6
+//! and 12 amend them, and those that request 9 added.
 
 /// Why a word was not decoded or not executed, eleven numbers were not
 /// encoded, or a tile was not taken or not given up.
@@ -26,8 +26,9 @@ pub enum Refusal {
     /// 6: the stack check is on, and the stack pointer is the base and is not
     /// a multiple of 16.
     StackPointer,
-    /// 7: a byte of an active element is not in memory.
-    Fault { address: u64 },
+    /// 7: a byte of an active element is not in memory. The lowest-numbered
+    /// such element, and the address of its first such byte.
+    Fault { address: u64, element: u64 },
     /// 8: in encoding, a field outside its range; in taking a tile, an asked
     /// size that is not one of the five.
     Field,
@@ -62,7 +63,15 @@ impl Refusal {
     /// The address that goes with the number: only 7 carries one.
     pub fn address(self) -> u64 {
         match self {
-            Refusal::Fault { address } => address,
+            Refusal::Fault { address, .. } => address,
+            _ => 0,
+        }
+    }
+
+    /// The element that goes with the number: only 7 carries one (request 6).
+    pub fn element(self) -> u64 {
+        match self {
+            Refusal::Fault { element, .. } => element,
             _ => 0,
         }
     }

@@ -21,9 +21,9 @@ pub enum Refusal {
     /// 6: the stack pointer is the base of a load or store with an active element, and no multiple of 16; only with
     /// the stack check on.
     StackMisaligned,
-    /// 7: a byte of an active element is not in memory; the address of the first such byte of the lowest such
-    /// element.
-    OutsideMemory { address: u64 },
+    /// 7: a byte of an active element is not in memory; the number of the lowest-numbered such element, and the address
+    /// of its first such byte.
+    OutsideMemory { address: u64, element: u64 },
     /// 8: no word encodes this operation, or no element has the bytes that were asked for.
     OutOfRange,
     /// 13: every tile of the asked size shares a byte with a held one.
@@ -52,22 +52,43 @@ impl Refusal {
     /// The address that answer 7 carries, 0 with every other.
     pub fn address(self) -> u64 {
         match self {
-            Refusal::OutsideMemory { address } => address,
+            Refusal::OutsideMemory { address, .. } => address,
             _ => 0,
         }
     }
 
-    /// The refusal of a number, and of the address that came with it, which only answer 7 carries on. None for 0, which
-    /// is 'done', and for a number that is no answer.
+    /// The element that answer 7 carries, 0 with every other.
+    ///
+    /// ```
+    /// use sme_move::{Machine, Settings};
+    ///
+    /// let settings = Settings::new(16, 1)?.with_streaming(true).with_za(true);
+    /// let mut machine = Machine::new(settings, vec![0; 22])?;
+    /// // Four elements of 4 bytes, from address 12 on, of which numbers 1 to 3 are active. Number 2 is at 20 to 23.
+    /// machine.state.predicate_mut(0).copy_from_slice(&[0b0001_0000, 0b0001_0001]);
+    /// machine.state.x[0] = 12;
+    /// let refusal = machine.execute(0xE09F0000).expect_err("memory ends at address 21");
+    /// assert_eq!((refusal.number(), refusal.address(), refusal.element()), (7, 22, 2));
+    /// # Ok::<(), sme_move::Refusal>(())
+    /// ```
+    pub fn element(self) -> u64 {
+        match self {
+            Refusal::OutsideMemory { element, .. } => element,
+            _ => 0,
+        }
+    }
+
+    /// The refusal of a number, and of the address and the element that came with it, which only answer 7 carries on.
+    /// None for 0, which is 'done', and for a number that is no answer.
     ///
     /// ```
     /// use sme_move::Refusal;
     ///
-    /// assert_eq!(Refusal::of_number(5, 0), Some(Refusal::ZaOff));
-    /// assert_eq!(Refusal::of_number(7, 64), Some(Refusal::OutsideMemory { address: 64 }));
-    /// assert_eq!(Refusal::of_number(0, 0), None);
+    /// assert_eq!(Refusal::of_number(5, 0, 0), Some(Refusal::ZaOff));
+    /// assert_eq!(Refusal::of_number(7, 64, 3), Some(Refusal::OutsideMemory { address: 64, element: 3 }));
+    /// assert_eq!(Refusal::of_number(0, 0, 0), None);
     /// ```
-    pub const fn of_number(number: u32, address: u64) -> Option<Refusal> {
+    pub const fn of_number(number: u32, address: u64, element: u64) -> Option<Refusal> {
         Some(match number {
             1 => Refusal::BadSettings,
             2 => Refusal::BadLengths,
@@ -75,7 +96,7 @@ impl Refusal {
             4 => Refusal::StreamingOff,
             5 => Refusal::ZaOff,
             6 => Refusal::StackMisaligned,
-            7 => Refusal::OutsideMemory { address },
+            7 => Refusal::OutsideMemory { address, element },
             8 => Refusal::OutOfRange,
             13 => Refusal::NoFreeTile,
             16 => Refusal::BadHeld,
@@ -85,8 +106,8 @@ impl Refusal {
 
     /// What an answer of the archive comes to. It gives no number without a meaning, so such a one means that it is
     /// not the archive this crate was written for.
-    pub(crate) fn check(number: u32, address: u64) -> Result<(), Refusal> {
-        match Refusal::of_number(number, address) {
+    pub(crate) fn check(number: u32, address: u64, element: u64) -> Result<(), Refusal> {
+        match Refusal::of_number(number, address, element) {
             Some(refusal) => Err(refusal),
             None if number == 0 => Ok(()),
             None => panic!("the archive gave answer {number}, which does not exist"),
@@ -106,9 +127,10 @@ impl fmt::Display for Refusal {
             Refusal::StreamingOff => write!(f, "streaming mode is off"),
             Refusal::ZaOff => write!(f, "the array is off"),
             Refusal::StackMisaligned => write!(f, "the stack pointer is no multiple of 16"),
-            Refusal::OutsideMemory { address } => {
-                write!(f, "address {address:016X} is not in memory")
-            }
+            Refusal::OutsideMemory { address, element } => write!(
+                f,
+                "address {address:016X} of element {element} is not in memory"
+            ),
             Refusal::OutOfRange => {
                 write!(
                     f,

@@ -31,6 +31,6 @@ pub struct Buffers<'a> {
 /// ```
 #[inline]
 pub fn execute(settings: Settings, word: u32, buffers: Buffers<'_>) -> Result<(), Refusal> {
-    let (number, address) = numbers::execute(settings, word, buffers);
-    Refusal::check(number, address)
+    let (number, address, element) = numbers::execute(settings, word, buffers);
+    Refusal::check(number, address, element)
 }

@@ -71,7 +71,7 @@ impl HeldTiles {
     pub fn take(&mut self, element_bytes: u64) -> Result<Tile, Refusal> {
         let (answer, number) =
             numbers::take_tile(&mut self.numbers, &mut self.count, element_bytes);
-        Refusal::check(answer, 0)?;
+        Refusal::check(answer, 0, 0)?;
         Ok(Tile {
             element_bytes,
             number,
@@ -86,7 +86,7 @@ impl HeldTiles {
         } = tile;
         let answer =
             numbers::give_up_tile(&mut self.numbers, &mut self.count, element_bytes, number);
-        Refusal::check(answer, 0)
+        Refusal::check(answer, 0, 0)
     }
 
     /// The held tiles, those taken first first.

@@ -8,7 +8,7 @@ use crate::settings::Settings;
 const UNWRITTEN: u64 = 0x5A5A_5A5A_5A5A_5A5A;
 
 extern "C" {
-    fn sme_version_0_7() -> u32;
+    fn sme_version_0_8() -> u32;
     fn sme_execute_word(
         settings: *const u64,
         settings_len: usize,
@@ -47,7 +47,7 @@ extern "C" {
 }
 
 /// The version that this package is written for: 65536 times the major number and the minor one.
-pub const VERSION: u32 = 7;
+pub const VERSION: u32 = 8;
 
 /// The version of the archive. It is never less than [`VERSION`]: an older archive has no such function, so that a
 /// program that uses this package does not link with it.
@@ -59,12 +59,12 @@ pub const VERSION: u32 = 7;
 /// ```
 pub fn version() -> u32 {
     // SAFETY: a number only.
-    unsafe { sme_version_0_7() }
+    unsafe { sme_version_0_8() }
 }
 
 /// For the linker, in programs that do not ask for the version too.
 #[used]
-static NEEDED: unsafe extern "C" fn() -> u32 = sme_version_0_7;
+static NEEDED: unsafe extern "C" fn() -> u32 = sme_version_0_8;
 
 /// The settings as the archive's functions take them.
 #[inline]
@@ -89,9 +89,9 @@ fn given(settings: Settings) -> [u64; 7] {
     ]
 }
 
-/// Executes a word: the answer's number, and the address that 7 carries, 0 with every other.
+/// Executes a word: the answer's number, and the address and the element that 7 carries, both 0 with every other.
 #[inline]
-pub fn execute(settings: Settings, word: u32, buffers: Buffers<'_>) -> (u32, u64) {
+pub fn execute(settings: Settings, word: u32, buffers: Buffers<'_>) -> (u32, u64, u64) {
     // First, since the archive reads it first: so it has been written by then, and fewer registers are in use here.
     let given = given(settings);
     let Buffers {
@@ -101,9 +101,9 @@ pub fn execute(settings: Settings, word: u32, buffers: Buffers<'_>) -> (u32, u64
         za,
         memory,
     } = buffers;
-    let mut address = UNWRITTEN;
-    // SAFETY: each pointer comes from a slice that lives through the call and goes with that slice's
-    // length, and the address is an array of one. What is written is borrowed as writable, so it overlaps nothing;
+    let mut results = [UNWRITTEN; 2];
+    // SAFETY: each pointer comes from a slice or an array that lives through the call and goes with its
+    // length. What is written is borrowed as writable, so it overlaps nothing;
     // settings, X and P are only read.
     let number = unsafe {
         sme_execute_word(
@@ -119,12 +119,13 @@ pub fn execute(settings: Settings, word: u32, buffers: Buffers<'_>) -> (u32, u64
             za.len(),
             memory.as_mut_ptr(),
             memory.len(),
-            &mut address,
-            1,
+            results.as_mut_ptr(),
+            results.len(),
             word,
         )
     };
-    (number, address)
+    let [address, element] = results;
+    (number, address, element)
 }
 
 /// Decodes a word: 0 with its eleven numbers written, or 1 or 3 with `fields` as it was.

@@ -105,7 +105,7 @@ impl Settings {
 
     /// Whether the vector lengths and the level are allowed.
     pub fn check(self) -> Result<(), Refusal> {
-        Refusal::check(numbers::check(self), 0)
+        Refusal::check(numbers::check(self), 0, 0)
     }
 
     #[must_use]
@@ -144,7 +144,7 @@ impl Settings {
     /// ```
     pub fn lengths(self) -> Result<Lengths, Refusal> {
         let mut lengths = [0; 4];
-        Refusal::check(numbers::measure(self, &mut lengths), 0)?;
+        Refusal::check(numbers::measure(self, &mut lengths), 0, 0)?;
         let [x, z, p, za] = lengths.map(|length| length as usize);
         Ok(Lengths { x, z, p, za })
     }

@@ -9,14 +9,14 @@ use crate::operation::Operation;
 /// instruction of the level [`Refusal::Undecodable`].
 pub fn decode_fields(word: u32, level: u64) -> Result<Fields, Refusal> {
     let mut eleven = [0; 11];
-    Refusal::check(numbers::decode(word, level, &mut eleven), 0)?;
+    Refusal::check(numbers::decode(word, level, &mut eleven), 0, 0)?;
     Ok(Fields::from(eleven))
 }
 
 /// The word that has these numbers, or [`Refusal::OutOfRange`].
 pub fn encode_fields(fields: Fields) -> Result<u32, Refusal> {
     let mut word = 0;
-    Refusal::check(numbers::encode(&fields.into(), &mut word), 0)?;
+    Refusal::check(numbers::encode(&fields.into(), &mut word), 0, 0)?;
     Ok(word)
 }
 

@@ -1,4 +1,4 @@
-//! Loads and stores: what they move, what they leave alone, and what they are refused for.
+//! Loads and stores: what they move, what they leave alone, and which stack pointers they are refused for.
 
 use sme_move::{encode, Direction, ElementSize, Operation, Refusal, Settings, State};
 
@@ -103,31 +103,6 @@ fn inactive_elements_become_zero() {
     assert!(state == expected && memory == before);
 }
 
-/// Memory ends after i bytes of the last element: that byte's address is told, and nothing is changed.
-#[test]
-fn the_first_byte_outside_is_told() {
-    for size in SIZES {
-        for word in [
-            load(size, Direction::Vertical, 0),
-            store(size, Direction::Vertical, 0),
-        ] {
-            for i in 0..usize::from(size.bytes()) {
-                let (mut state, before) = (state(), state());
-                let inside = 32 - usize::from(size.bytes()) + i;
-                let mut memory = vec![0xEE; inside];
-                let address = START + inside as u64;
-                let refusal = Refusal::OutsideMemory { address };
-                assert_eq!(
-                    state.execute(settings(), word, &mut memory),
-                    Err(refusal),
-                    "{word:08X}"
-                );
-                assert!(state == before && memory == vec![0xEE; inside]);
-            }
-        }
-    }
-}
-
 /// A stack pointer that is no multiple of 16 is refused if an element is active. If none is, a load zeroes its slice.
 #[test]
 fn the_stack_pointer_is_looked_at_with_an_active_element() {
@@ -148,7 +123,7 @@ fn the_stack_pointer_is_looked_at_with_an_active_element() {
     }
 }
 
-/// With the stack check off it is a base like any other: the load is done, or gets 7 with the address.
+/// With the stack check off it is a base like any other: the load is done, or gets 7 with address and element.
 #[test]
 fn a_misaligned_stack_pointer_is_a_base_with_the_check_off() {
     let settings = settings().with_stack_check(false);
@@ -162,7 +137,10 @@ fn a_misaligned_stack_pointer_is_a_base_with_the_check_off() {
         expected.za[32 * tile..][..32].copy_from_slice(&memory[8..40]);
         assert_eq!(state.execute(settings, on_stack, &mut memory), Ok(()));
         assert!(state == expected);
-        let refusal = Refusal::OutsideMemory { address: START + 8 };
+        let refusal = Refusal::OutsideMemory {
+            address: START + 8,
+            element: 0,
+        };
         assert_eq!(state.execute(settings, on_stack, &mut []), Err(refusal));
         assert!(state == expected);
     }

@@ -1,9 +1,9 @@
-//! Refusals: the number, the address and the words of each, and those that calls give.
+//! Refusals: the number, the words, and the address and element of each, and those that calls give.
 
-use sme_move::{decode, encode, HeldTiles, Refusal, Settings, State, Tile};
+use sme_move::{decode, encode, numbers, Buffers, HeldTiles, Refusal, Settings, State, Tile};
 use sme_move::{Direction, ElementSize, Operation};
 
-/// Every refusal but the one that carries an address, with its number and its words.
+/// Every refusal but the one that carries an address and an element, with its number and its words.
 const WITHOUT_ADDRESS: [(Refusal, u32, &str); 9] = [
     (
         Refusal::BadSettings,
@@ -46,14 +46,20 @@ const MOVE: u32 = 0xC000_0000;
 const STORE: u32 = 0xE022_0020;
 const STORE_ON_STACK: u32 = 0xE03F_03E0;
 
+/// The number of a refusal, and what comes with it.
+fn carried(refusal: Refusal) -> (u32, u64, u64) {
+    (refusal.number(), refusal.address(), refusal.element())
+}
+
 #[test]
-fn a_refusal_has_its_number_and_words_and_no_address() {
+fn a_refusal_has_its_number_and_words_and_neither_address_nor_element() {
     for (refusal, number, words) in WITHOUT_ADDRESS {
         assert_eq!(refusal.number(), number);
-        assert_eq!(refusal.address(), 0, "{refusal:?}");
+        assert_eq!((refusal.address(), refusal.element()), (0, 0));
         assert_eq!(refusal.to_string(), words);
-        for address in [0, 1, u64::MAX] {
-            assert_eq!(Refusal::of_number(number, address), Some(refusal));
+        for (address, element) in [(0, 0), (1, 0), (0, 1), (u64::MAX, 255)] {
+            let of_number = Refusal::of_number(number, address, element);
+            assert_eq!(of_number, Some(refusal));
         }
     }
 }
@@ -64,23 +70,32 @@ fn other_numbers_are_no_refusals() {
     let given = WITHOUT_ADDRESS.map(|(_, number, _)| number);
     let others = (0..300).chain([1 << 16, (1 << 16) + 1, u32::MAX]);
     for number in others.filter(|number| *number != 7 && !given.contains(number)) {
-        assert_eq!(Refusal::of_number(number, 1), None);
+        assert_eq!(Refusal::of_number(number, 1, 1), None);
     }
 }
 
 #[test]
-fn outside_memory_has_its_address() {
-    for (address, digits) in [
-        (0, "0000000000000000"),
-        (1, "0000000000000001"),
-        (0x1_0000_002A, "000000010000002A"),
-        (0xFEDC_BA98_7654_3210, "FEDCBA9876543210"),
-        (u64::MAX, "FFFFFFFFFFFFFFFF"),
+fn outside_memory_has_its_address_and_element() {
+    for (address, element, words) in [
+        (0, 0, "0000000000000000 of element 0"),
+        (1, 0, "0000000000000001 of element 0"),
+        (0, 1, "0000000000000000 of element 1"),
+        (0x1_0000_002A, 15, "000000010000002A of element 15"),
+        (
+            0xFEDC_BA98_7654_3210,
+            255,
+            "FEDCBA9876543210 of element 255",
+        ),
+        (
+            u64::MAX,
+            u64::MAX,
+            "FFFFFFFFFFFFFFFF of element 18446744073709551615",
+        ),
     ] {
-        let refusal = Refusal::OutsideMemory { address };
-        assert_eq!((refusal.number(), refusal.address()), (7, address));
-        assert_eq!(Refusal::of_number(7, address), Some(refusal));
-        let words = format!("address {digits} is not in memory");
+        let refusal = Refusal::OutsideMemory { address, element };
+        assert_eq!(carried(refusal), (7, address, element));
+        assert_eq!(Refusal::of_number(7, address, element), Some(refusal));
+        let words = format!("address {words} is not in memory");
         assert_eq!(refusal.to_string(), words);
     }
 }
@@ -90,18 +105,30 @@ fn settings() -> Settings {
     settings.with_streaming(true).with_za(true)
 }
 
-/// What a word is refused with, every element being active, registers 1 and 31 at this address and register 2 at 4.
-fn refusal_of(settings: Settings, word: u32, address: u64) -> Refusal {
+/// What a word is answered, every element being active, registers 1 and 31 at this address and register 2 at 4: by the
+/// binding, and as the archive's numbers.
+fn answers_of(
+    settings: Settings,
+    word: u32,
+    address: u64,
+) -> (Result<(), Refusal>, (u32, u64, u64)) {
     let mut state = State::new(self::settings()).expect("these are allowed");
     state.p.fill(0xFF);
     (state.x[1], state.x[2], state.x[31]) = (address, 4, address);
-    let refused = state.execute(settings, word, &mut [0; 64]);
-    refused.expect_err("it is refused")
+    let answer = state.execute(settings, word, &mut [0; 64]);
+    let buffers = Buffers {
+        x: &state.x,
+        z: &mut state.z,
+        p: &state.p,
+        za: &mut state.za,
+        memory: &mut [0; 64],
+    };
+    (answer, numbers::execute(settings, word, buffers))
 }
 
-/// Each refusal that executing a word can give, from the archive: number and address are those of its answer.
+/// Each answer that executing a word can give, from the archive, which writes address and element with every one.
 #[test]
-fn executing_gives_number_and_address() {
+fn executing_gives_number_address_and_element() {
     let mut bad = settings();
     bad.level = 4;
     let off = settings().with_streaming(false).with_za(false);
@@ -110,28 +137,31 @@ fn executing_gives_number_and_address() {
     let wider = Settings::within(16, 32, 3).expect("these are allowed");
     let mut shorter = settings();
     shorter.largest_vector_bytes = 8;
-    for (settings, word, start, number, address) in [
-        (bad, MOVE, 0, 1, 0),
-        (shorter, MOVE, 0, 1, 0),
-        (high, MOVE, 0, 2, 0),
-        (other, MOVE, 0, 2, 0),
-        (wider, MOVE, 0, 2, 0),
-        (settings(), 0xC000_0010, 0, 3, 0),
-        (off, MOVE, 0, 4, 0),
-        (off.with_streaming(true), MOVE, 0, 5, 0),
-        (settings(), STORE_ON_STACK, 8, 6, 0),
-        (settings(), STORE_ON_STACK, 64, 7, 64),
-        (settings(), STORE, 45, 7, 64),
-        (settings(), STORE, u64::MAX - 7, 7, u64::MAX - 3),
+    for (settings, word, start, expected) in [
+        (settings(), MOVE, 0, (0, 0, 0)),
+        (settings(), STORE, 44, (0, 0, 0)),
+        (bad, MOVE, 0, (1, 0, 0)),
+        (shorter, MOVE, 0, (1, 0, 0)),
+        (high, MOVE, 0, (2, 0, 0)),
+        (other, MOVE, 0, (2, 0, 0)),
+        (wider, MOVE, 0, (2, 0, 0)),
+        (settings(), 0xC000_0010, 0, (3, 0, 0)),
+        (off, MOVE, 0, (4, 0, 0)),
+        (off.with_streaming(true), STORE, 45, (5, 0, 0)),
+        (settings(), STORE_ON_STACK, 56, (6, 0, 0)),
+        (settings(), STORE_ON_STACK, 64, (7, 64, 0)),
+        (settings(), STORE, 45, (7, 64, 15)),
+        (settings(), STORE, u64::MAX - 7, (7, u64::MAX - 3, 0)),
     ] {
-        let refusal = refusal_of(settings, word, start);
-        assert_eq!((refusal.number(), refusal.address()), (number, address));
+        let (answer, numbers) = answers_of(settings, word, start);
+        assert_eq!(answer.err().map_or((0, 0, 0), carried), expected);
+        assert_eq!(numbers, expected);
     }
 }
 
 /// Those of the other calls.
 #[test]
-fn other_calls_give_numbers_without_an_address() {
+fn other_calls_give_numbers_alone() {
     let wide = Operation::MovazFromTile {
         size: ElementSize::Bits8,
         direction: Direction::Horizontal,
@@ -157,6 +187,6 @@ fn other_calls_give_numbers_without_an_address() {
         (held.give_up(tile).err(), 16),
     ] {
         let refusal = refused.expect("it is refused");
-        assert_eq!((refusal.number(), refusal.address()), (number, 0));
+        assert_eq!(carried(refusal), (number, 0, 0));
     }
 }

@@ -96,12 +96,18 @@ fn a_run_stops_at_the_first_refusal() {
     let mut machine = machine();
     machine.state.x[2] = 5;
     let stopped = machine.run([MOVE, STORE, MOVE]).expect_err("it is refused");
-    let refusal = Refusal::OutsideMemory { address: 0x114 };
+    let refusal = Refusal::OutsideMemory {
+        address: 0x114,
+        element: 15,
+    };
     assert_eq!(stopped, Stopped { done: 1, refusal });
     assert_eq!(machine.memory, [b'.'; 20]);
     assert_eq!(machine.state.array_vector(0), b"sixteen letters!");
     let told = stopped.to_string();
-    assert_eq!(told, "word 2: address 0000000000000114 is not in memory");
+    assert_eq!(
+        told,
+        "word 2: address 0000000000000114 of element 15 is not in memory"
+    );
     assert_eq!(Refusal::from(stopped), refusal);
 }
 

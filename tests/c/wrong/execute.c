@@ -1,7 +1,7 @@
 /*
  * Deliberately wrong units: linked between the tests and the archive (the linker's --wrap), this hands each call of
- * sme_execute_word on with one mistake about sizes or about buffers that are laid out for longer vectors, which the
- * environment variable WRONG names. The tests must notice each.
+ * sme_execute_word on with one mistake about sizes, about buffers that are laid out for longer vectors or about results,
+ * which the environment variable WRONG names. The tests must notice each.
  */
 #include "sme_move.h"
 
@@ -11,6 +11,10 @@
 
 #define IN_16_BITS UINT64_C(0xFFFF)
 #define IN_32_BITS UINT64_C(0xFFFFFFFF)
+
+/* What loads and stores of columns, and stores of 16-byte elements, have in their words. */
+#define COLUMN UINT64_C(0x8000)
+#define STORE_OF_16_BYTES UINT64_C(0x1E00000)
 
 /* The longest memory that the mistake about long memory lets pass. */
 enum { LONGEST_ALLOWED = 4096 };
@@ -48,7 +52,18 @@ enum what {
     /* a done word clears vector registers or vectors of ZA beyond the vector length, or the vectors of ZA from it on */
     CLEARS_BEYOND_Z,
     CLEARS_BEYOND_ZA,
-    CLEARS_ZA_FROM
+    CLEARS_ZA_FROM,
+    /* the element is never written, or not with another answer than 7, or also where there is no place for it */
+    ELEMENT_MISSING,
+    ELEMENT_KEPT,
+    ELEMENT_WITHOUT_PLACE,
+    /* it is told by its first byte's number, counted from 1 by words with these bits, or in the place of the address */
+    ELEMENT_AS_BYTE,
+    ELEMENT_FROM_1,
+    ELEMENT_AS_ADDRESS,
+    /* the lowest-numbered active element is told, or the lowest-numbered one outside memory */
+    FIRST_ACTIVE,
+    FIRST_OUTSIDE
 };
 
 typedef struct mistake {
@@ -91,6 +106,16 @@ static const mistake mistakes[] = {
     {"ClearsBeyondZ", CLEARS_BEYOND_Z, 0},
     {"ClearsBeyondZa", CLEARS_BEYOND_ZA, 0},
     {"ClearsZaFromB", CLEARS_ZA_FROM, 0},
+    {"ElementMissing", ELEMENT_MISSING, 0},
+    {"ElementKept", ELEMENT_KEPT, 0},
+    {"ElementWithoutPlace", ELEMENT_WITHOUT_PLACE, 0},
+    {"ElementAsByte", ELEMENT_AS_BYTE, 0},
+    {"ElementFromOne", ELEMENT_FROM_1, 0},
+    {"ElementFromOneInColumns", ELEMENT_FROM_1, COLUMN},
+    {"ElementFromOneInLongStores", ELEMENT_FROM_1, STORE_OF_16_BYTES},
+    {"ElementAsAddress", ELEMENT_AS_ADDRESS, 0},
+    {"FirstActiveElement", FIRST_ACTIVE, 0},
+    {"FirstElementOutside", FIRST_OUTSIDE, 0},
 };
 
 /* What a call hands over; the tests with mistakes give every setting, as the wrappers do. */
@@ -140,9 +165,15 @@ static bool is_store(uint32_t word)
     return is_access(word) && (word >> 21 & 1) == 1;
 }
 
+/* The bytes of an element of a load or store. */
+static size_t element_bytes(uint32_t word)
+{
+    return (size_t)1 << ((word >> 22 & 3) + (word >> 24 & 1));
+}
+
 /*
- * The place of element 0 in memory, or one that memory has not. The tests that have long memory have zero in the offset
- * register.
+ * The place of element 0 in memory, or one that memory has not. The tests that have long memory or look for an element
+ * have zero in the offset register.
  */
 static uint64_t place_of(const call *own)
 {
@@ -222,16 +253,74 @@ static void clear_beyond(enum what what, const call *own)
     }
 }
 
-static void spoil(const mistake *wrong, call *own)
+/* The number of the lowest element of a load or store with a byte outside memory. There is one. */
+static uint64_t first_outside(const call *own)
 {
-    uint64_t b = own->settings.vector_bytes, apart = own->settings.largest_vector_bytes, bits = wrong->bits;
+    const uint64_t m = element_bytes(own->word);
+    uint64_t place = place_of(own), element = 0;
+    while (place < own->lent.memory_bytes && m <= own->lent.memory_bytes - place) {
+        place += m;
+        element++;
+    }
+    return element;
+}
+
+/* The number of the lowest active one. There is one. */
+static uint64_t first_active(const call *own)
+{
+    const uint8_t *bits = own->lent.p + (own->word >> 10 & 7) * (own->settings.largest_vector_bytes / 8);
+    uint64_t bit = 0;
+    while ((bits[bit / 8] >> bit % 8 & 1) == 0) {
+        bit += element_bytes(own->word);
+    }
+    return bit / element_bytes(own->word);
+}
+
+/* The element that is told with answer 7 by this mistake, if it is one about that, and else the right one. */
+static uint64_t wrong_element(const mistake *wrong, const call *own, uint64_t right)
+{
+    switch (wrong->what) {
+    case ELEMENT_AS_BYTE:
+        return right * element_bytes(own->word);
+    case ELEMENT_FROM_1:
+        return right + ((own->word & wrong->bits) == wrong->bits);
+    case FIRST_ACTIVE:
+        return first_active(own);
+    case FIRST_OUTSIDE:
+        return first_outside(own);
+    default:
+        return right;
+    }
+}
+
+/* Spoils the results of a call with this answer, before which this was in the element's place. */
+static void spoil_results(const mistake *wrong, const call *own, uint32_t answer, uint64_t before)
+{
+    const enum what what = wrong->what;
+    uint64_t *results = own->results;
+    if (what == ELEMENT_WITHOUT_PLACE && own->results_count == SME_RESULT_ELEMENT) {
+        results[SME_RESULT_ELEMENT] = 0;
+    }
+    if (own->results_count <= SME_RESULT_ELEMENT) {
+        return;
+    }
+    if (what == ELEMENT_MISSING || (what == ELEMENT_KEPT && answer != SME_OUTSIDE_MEMORY)) {
+        results[SME_RESULT_ELEMENT] = before;
+    } else if (what == ELEMENT_AS_ADDRESS) {
+        const uint64_t address = results[SME_RESULT_ADDRESS];
+        results[SME_RESULT_ADDRESS] = results[SME_RESULT_ELEMENT];
+        results[SME_RESULT_ELEMENT] = address;
+    } else if (answer == SME_OUTSIDE_MEMORY) {
+        results[SME_RESULT_ELEMENT] = wrong_element(wrong, own, results[SME_RESULT_ELEMENT]);
+    }
+}
+
+/* Mistakes about the lengths of buffers other than memory. */
+static void spoil_lengths(const mistake *wrong, call *own)
+{
+    const uint64_t apart = own->settings.largest_vector_bytes, bits = wrong->bits;
     sme_buffers *lent = &own->lent;
     switch (wrong->what) {
-    case NONE:
-    case CLEARS_BEYOND_Z:
-    case CLEARS_BEYOND_ZA:
-    case CLEARS_ZA_FROM:
-        break;
     case X:
         compare_low(&lent->x_count, SME_X_COUNT, bits);
         break;
@@ -247,30 +336,50 @@ static void spoil(const mistake *wrong, call *own)
     case ZA:
         compare_low(&lent->za_bytes, SME_ZA_BYTES(apart), bits);
         break;
+    default:
+        break;
+    }
+}
+
+/* Mistakes about memory's length, and places in it. */
+static void spoil_memory(const mistake *wrong, call *own)
+{
+    sme_buffers *lent = &own->lent;
+    switch (wrong->what) {
     case MEMORY_LENGTH:
-        lent->memory_bytes &= bits;
+        lent->memory_bytes &= wrong->bits;
         break;
     case MEMORY_OFFSET:
-        misplace(own, bits);
+        misplace(own, wrong->bits);
         break;
     case END_OFFSET:
-        if (place_of(own) + b > lent->memory_bytes) {
-            misplace(own, bits);
+        if (place_of(own) + own->settings.vector_bytes > lent->memory_bytes) {
+            misplace(own, wrong->bits);
         }
         break;
     case STORE_OFFSET:
     case STORE_TWICE:
         if (is_store(own->word)) {
-            misplace(own, bits);
+            misplace(own, wrong->bits);
         }
         break;
     case MEMORY_END:
-        end_low(&own->settings, lent, bits);
+        end_low(&own->settings, lent, wrong->bits);
         break;
     case LONG_MEMORY:
         /* no vector length has an empty X */
         lent->x_count = lent->memory_bytes > LONGEST_ALLOWED ? 0 : lent->x_count;
         break;
+    default:
+        break;
+    }
+}
+
+/* Mistakes about the largest vector length, and where it has predicates start. */
+static void spoil_largest(const mistake *wrong, call *own)
+{
+    const uint64_t b = own->settings.vector_bytes, apart = own->settings.largest_vector_bytes;
+    switch (wrong->what) {
     case LARGEST_MISSING:
         drop_largest(own);
         break;
@@ -280,7 +389,7 @@ static void spoil(const mistake *wrong, call *own)
         }
         break;
     case LARGEST_LOW:
-        own->settings.largest_vector_bytes &= bits;
+        own->settings.largest_vector_bytes &= wrong->bits;
         break;
     case LARGEST_BELOW:
         own->settings.largest_vector_bytes = apart < b ? b : apart;
@@ -289,7 +398,17 @@ static void spoil(const mistake *wrong, call *own)
     case PREDICATES_LONG:
         spoil_predicates(wrong->what, own);
         break;
+    default:
+        break;
     }
+}
+
+/* Mistakes that are made before the call is handed on; those about what a call leaves and gives are made after it. */
+static void spoil(const mistake *wrong, call *own)
+{
+    spoil_lengths(wrong, own);
+    spoil_memory(wrong, own);
+    spoil_largest(wrong, own);
 }
 
 /* What the linker makes of the tests' calls, and how it lets this file call the archive. */
@@ -332,7 +451,9 @@ uint32_t __wrap_sme_execute_word(const uint64_t *settings, size_t settings_count
                         results_count};
     call own = right;
     spoil(wrong, &own);
+    const uint64_t before = results_count > SME_RESULT_ELEMENT ? results[SME_RESULT_ELEMENT] : 0;
     uint32_t answer = hand_on(own);
+    spoil_results(wrong, &own, answer, before);
     if (answer == SME_DONE) {
         clear_beyond(wrong->what, &own);
     }

@@ -2,23 +2,17 @@
 -- Assumes nothing.
 use denote.Ref.{now}
 use borrow.Author.Needs.{needs}
-use Rattle.sme_move.proofs.ExportLaws.{fills-first, fills-none, execute-exports}
+use Rattle.sme_move.proofs.ExportLaws.{fills, execute-exports}
 use Rattle.sme_move.proofs.sme_execute_word.Statement.{statement}
 use Rattle.sme_move.proofs.sme_execute_word.Tie as tie
 
 returns : tie.Need-returns
 returns c =
-    let executed = c .before .before .before .before .before .before .before .before .before in
+    let put = c .before .before .before .before .before .before in
+    let executed = put .before .before .before .before .before .before .before .before .before .before in
     let read = executed .before .before .before .before in
-    execute-exports (read .settings-in .ensures) (executed .execute .ensures) (c .before .before .number .ensures)
-    (fills-first (now (read .before .before .before .before .before .before .before .before .args .results)) (c .before .address .ensures) (c .if1 .taken))
-
-returns-2 : tie.Need-returns-2
-returns-2 c =
-    let executed = c .before .before .before .before .before .before .before .before .before in
-    let read = executed .before .before .before .before in
-    execute-exports (read .settings-in .ensures) (executed .execute .ensures) (c .before .before .number .ensures)
-    (fills-none _ _ (c .if1 .left))
+    execute-exports (read .settings-in .ensures) (executed .execute .ensures) (put .before .before .before .number .ensures)
+    (fills (now (read .before .before .before .before .before .before .before .before .args .results)) (executed .execute .result) _ (put .before .before .fault .ensures) (put .put-result .ensures) (c .before .before .put-result2 .ensures))
 
 pub sme-execute-word-spec : {M : Type 1} → statement M
 sme-execute-word-spec =
@@ -28,13 +22,10 @@ sme-execute-word-spec =
     (λ c κs. search needs)
     (λ c κs. search needs)
     (λ c κs. search needs)
+    (λ c κs. search needs)
+    (λ c κs. search needs)
     (λ c. search needs)
     (λ c. search needs)
     (λ c. search needs)
     (λ c. search needs)
-    (λ c. search needs)
-    returns
-    (λ c. search needs)
-    (λ c. search needs)
-    (λ c. search needs)
-    returns-2)
+    returns)

@@ -51,8 +51,8 @@ Compares the archive with the second program. Without one of the first three, al
                  decodes encoded again
   --fields       each pair of the eleven numbers of many operations replaced by all values, and
                  N random combinations: encoded, and what is encodable decoded again
-  --executions   N random states (10000000): every buffer, answer and address; in buffers for longer
-                 vectors the archive runs each again with the bytes beyond inverted
+  --executions   N random states (10000000): every buffer, answer, address and element; in buffers
+                 for longer vectors the archive runs each again with the bytes beyond inverted
 The result depends on the seed, not on the number of threads (as many as there are cores).
 Status 1 and the first difference in full if there is one.";
 

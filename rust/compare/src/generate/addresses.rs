@@ -10,14 +10,17 @@ use crate::names::FAULT;
 use second::flat::Flat;
 use second::inputs::random::Random;
 use sme_move::Refusal;
+use std::ops::Range;
 
 /// The number with two meanings.
 const THIRTY_ONE: usize = 31;
 
-/// The lowest and the highest active element, of m bytes each.
+/// The lowest and the highest active element and one about in the middle
+/// between, of m bytes each.
 #[derive(Clone, Copy)]
 struct Span {
     low: u64,
+    middle: u64,
     high: u64,
     m: u64,
 }
@@ -40,6 +43,9 @@ impl Span {
 pub fn set(random: &mut Random, case: &mut Case, operation: &Flat, causes: &Causes) {
     let misaligned = causes.has(Refusal::StackMisaligned);
     let checked = case.settings.stack_check;
+    if causes.has(FAULT) && random.chance(1, 3) {
+        start_later(random, case, operation);
+    }
     if misaligned || causes.has(FAULT) {
         activate(random, case, operation);
     }
@@ -56,6 +62,19 @@ pub fn set(random: &mut Random, case: &mut Case, operation: &Flat, causes: &Caus
     let either = span.is_none() || !checked;
     let misaligned = misaligned || (either && random.chance(1, 2));
     set_registers(random, case, operation, start, !misaligned);
+}
+
+/// Makes another element than the first the lowest active one, if there is
+/// another: wherever memory is, it is not element 0 then that is outside.
+fn start_later(random: &mut Random, case: &mut Case, operation: &Flat) {
+    let m = usize::from(operation.element_bytes);
+    let register = predicates::register(case, operation);
+    let elements = 8 * register.len() / m;
+    if elements > 1 {
+        let bit = m * (1 + random.below(elements - 1));
+        clear(register, 0..bit);
+        register[bit / 8] |= 1 << (bit % 8);
+    }
 }
 
 /// Makes an element active if there is none: causes 6 and 7 need one.
@@ -76,13 +95,13 @@ fn fit_to_memory(case: &mut Case, operation: &Flat) {
     let room = case.memory.len() / m;
     let register = predicates::register(case, operation);
     if let Some(span) = span(register, operation) {
-        clear_from(register, (span.low as usize + room) * m);
+        let bits = 8 * register.len();
+        clear(register, (span.low as usize + room) * m..bits);
     }
 }
 
-/// Clears the bits from `first` on.
-fn clear_from(register: &mut [u8], first: usize) {
-    for bit in first..8 * register.len() {
+fn clear(register: &mut [u8], bits: Range<usize>) {
+    for bit in bits {
         register[bit / 8] &= !(1 << (bit % 8));
     }
 }
@@ -93,7 +112,13 @@ fn span(register: &[u8], operation: &Flat) -> Option<Span> {
     let mut elements = (0..8 * register.len() as u64 / m).filter(active);
     let low = elements.next()?;
     let high = elements.next_back().unwrap_or(low);
-    Some(Span { low, high, m })
+    let middle = (low.midpoint(high)..high).find(active).unwrap_or(high);
+    Some(Span {
+        low,
+        middle,
+        high,
+        m,
+    })
 }
 
 /// An address of element 0 that puts all active elements into memory, often
@@ -123,8 +148,8 @@ fn at_border(random: &mut Random, spare: u64, span: Span) -> u64 {
 }
 
 /// An address of element 0 that leaves an active element outside: some out
-/// below memory, some out above it, one over its end or its start, wrapping
-/// near 2^64, or anywhere.
+/// below memory, some out above it, one over its end, its start or 2^64,
+/// wrapping near 2^64, or anywhere.
 fn outside(random: &mut Random, case: &Case, span: Span) -> u64 {
     let first = case.settings.memory_address;
     let end = first.wrapping_add(case.memory.len() as u64);
@@ -136,17 +161,18 @@ fn outside(random: &mut Random, case: &Case, span: Span) -> u64 {
             end.wrapping_add(by).wrapping_sub(last)
         }
         6..=9 => over(random, end, span),
-        10..=13 => over(random, first, span),
+        10..=12 => over(random, first, span),
+        13 => over(random, 0, span),
         14 => random.below(600).wrapping_neg() as u64,
         _ => random.bits(),
     }
 }
 
-/// An address of element 0 with which the lowest or the highest active
-/// element has some of its bytes before `edge` and some not, if it has more
-/// than one, and sometimes none before.
+/// An address of element 0 with which the lowest, the middle or the highest
+/// active element has some of its bytes before `edge` and some not, if it has
+/// more than one, and sometimes none before.
 fn over(random: &mut Random, edge: u64, span: Span) -> u64 {
-    let e = random.pick(&[span.low, span.low, span.high]);
+    let e = random.pick(&[span.low, span.low, span.middle, span.high]);
     let before = if span.m == 1 || random.chance(1, 6) {
         0
     } else {

@@ -8,6 +8,7 @@ mod taken;
 #[cfg(test)]
 mod tests;
 
+use crate::columns::write_line;
 use crate::names::{self, is_predicated, Named};
 use crate::rows::{encoding, Drawn, TABLE};
 use crate::table::NAMES;
@@ -122,13 +123,4 @@ impl Display for Paths {
         }
         Ok(())
     }
-}
-
-/// One line, in columns.
-fn write_line(f: &mut Formatter, name: &str, told: &[impl Display]) -> fmt::Result {
-    write!(f, "{name:<24}")?;
-    for own in told {
-        write!(f, " {own:>8}")?;
-    }
-    writeln!(f)
 }

@@ -1,6 +1,7 @@
 //! Situations of loads and stores: where they go, what they are refused for,
 //! and the two meanings of number 31.
 
+use super::faults::{FAULTS, FAULTS_OF_WIDE};
 use super::Situations;
 use crate::names::{self, on_or_off, Answer, Named, ACCESSES, FAULT, WAYS};
 use crate::rows::Drawn;
@@ -22,7 +23,7 @@ const EARLIER: [Answer; 5] = [
 ];
 
 /// A test of a case that has the load or store in question.
-type Holds = fn(&View) -> bool;
+pub type Holds = fn(&View) -> bool;
 /// A test of a load or store.
 type Has = fn(Flat) -> bool;
 /// A test of an element of a case's slice.
@@ -54,39 +55,6 @@ const DONE: [(&str, Holds); 10] = [
         !v.active.is_empty() && v.start() % 16 != 0
     }),
     ("memory of length 0", |v| v.case.memory.is_empty()),
-];
-
-const FAULTS: [(&str, Holds); 5] = [
-    ("at an element's first byte", |v| {
-        v.fault().is_some_and(|(_, byte)| byte == 0)
-    }),
-    ("after an active element in memory", |v| {
-        v.fault().map(|(e, _)| e) != v.active.first().copied()
-    }),
-    ("a later active element in memory", |v| {
-        v.active.last().is_some_and(|&e| v.in_memory(e))
-    }),
-    ("at an element that wrapped at 2^64", |v| {
-        u128::from(v.address) < v.start()
-    }),
-    ("memory of length 0", |v| v.case.memory.is_empty()),
-];
-
-/// What an element of one byte cannot have.
-const FAULTS_OF_WIDE: [(&str, Holds); 4] = [
-    ("at a later byte of an element", |v| {
-        v.fault().is_some_and(|(_, byte)| byte > 0)
-    }),
-    ("at an element over 2^64, memory from address 0", |v| {
-        v.memory_start() == 0 && over_the_last_address(v)
-    }),
-    ("at an element over 2^64, memory up to 2^64", |v| {
-        v.memory_end() == ADDRESSES && v.address == 0 && over_the_last_address(v)
-    }),
-    ("memory shorter than an element", |v| {
-        let m = v.access().map_or(0, |own| usize::from(own.element_bytes));
-        (1..m).contains(&v.case.memory.len())
-    }),
 ];
 
 pub fn name(all: &mut Situations, drawn: Drawn) {
@@ -139,15 +107,6 @@ fn name_sized(all: &mut Situations, name: &str, kind: Kind, m: u8) {
             own(v, Ok(())) && !v.active.is_empty() && v.product() >= ADDRESSES
         });
     }
-}
-
-/// Whether the element of the fault begins before 2^64 and ends after 0.
-fn over_the_last_address(v: &View) -> bool {
-    let fault = v.fault();
-    fault.is_some_and(|(e, _)| {
-        let (first, last) = v.ends(e);
-        last < first
-    })
 }
 
 /// The stack pointer as base, aligned or not, with an active element or none,

@@ -2,6 +2,7 @@
 
 mod accesses;
 mod buffers;
+mod faults;
 mod long_buffers;
 mod memory;
 mod moves;

@@ -1,6 +1,8 @@
 //! Worked examples of loads and stores: the ends of memory, the end of all
-//! addresses, which byte answer 7 tells, what becomes zero, and long memory.
+//! addresses, which byte answer 7 tells and of which element, what becomes zero, and long
+//! memory.
 
+use super::elements::ELEMENTS;
 use super::stack_check::{CHECKED, UNCHECKED};
 use super::{bytes, case, Worked};
 use crate::case::Case;
@@ -38,9 +40,9 @@ pub enum Expected {
     },
 }
 
-/// Refused for the byte at this address.
-pub const fn outside(address: u64) -> Expected {
-    Expected::Refused(Refusal::OutsideMemory { address })
+/// Refused for the byte at this address, which is one of this element.
+pub const fn outside(address: u64, element: u64) -> Expected {
+    Expected::Refused(Refusal::OutsideMemory { address, element })
 }
 
 const MINUS_4: u64 = u64::MAX - 3;
@@ -59,7 +61,7 @@ const EXAMPLES: [Example; 14] = [
         base: 0x2036,
         offset: 0,
         bits: &[0, 4, 8, 12],
-        expected: outside(0x2040),
+        expected: outside(0x2040, 2),
     },
     Example {
         name: "the same without the elements outside",
@@ -84,7 +86,7 @@ const EXAMPLES: [Example; 14] = [
         base: 0x1FFD,
         offset: 0,
         bits: &[0, 8],
-        expected: outside(0x1FFD),
+        expected: outside(0x1FFD, 0),
     },
     // Element 0 is at 2^64 - 4 and ends at address 3.
     Example {
@@ -95,7 +97,7 @@ const EXAMPLES: [Example; 14] = [
         base: MINUS_4,
         offset: 0,
         bits: &[0, 8],
-        expected: outside(MINUS_4),
+        expected: outside(MINUS_4, 0),
     },
     Example {
         name: "the same without it",
@@ -120,7 +122,7 @@ const EXAMPLES: [Example; 14] = [
         base: MINUS_12,
         offset: 0,
         bits: &[0, 8],
-        expected: outside(0),
+        expected: outside(0, 1),
     },
     // Elements 1, 3, 5 and 7 are active; 5 is at 64, where memory ends.
     Example {
@@ -131,7 +133,7 @@ const EXAMPLES: [Example; 14] = [
         base: 54,
         offset: 0,
         bits: &[2, 6, 10, 14],
-        expected: outside(64),
+        expected: outside(64, 5),
     },
     // 5 is at 63.
     Example {
@@ -142,7 +144,7 @@ const EXAMPLES: [Example; 14] = [
         base: 53,
         offset: 0,
         bits: &[2, 6, 10, 14],
-        expected: outside(64),
+        expected: outside(64, 5),
     },
     Example {
         name: "byte 15 of an element",
@@ -152,7 +154,7 @@ const EXAMPLES: [Example; 14] = [
         base: 1,
         offset: 3,
         bits: &[0],
-        expected: outside(64),
+        expected: outside(64, 0),
     },
     // Base and offset are number 31: the stack pointer and zero.
     Example {
@@ -298,7 +300,7 @@ const LONG: [Example; 6] = [
         base: 0xFFF7,
         offset: 0,
         bits: &[0, 4, 8, 12],
-        expected: outside(0x1_0001),
+        expected: outside(0x1_0001, 2),
     },
     Example {
         name: "the byte before 1 MiB",
@@ -308,7 +310,7 @@ const LONG: [Example; 6] = [
         base: 0x1FFF,
         offset: 0,
         bits: &[0, 1],
-        expected: outside(0x1FFF),
+        expected: outside(0x1FFF, 0),
     },
 ];
 
@@ -322,7 +324,7 @@ pub fn list() -> Vec<Worked> {
 /// The examples with the stack check in one position, those of this position
 /// alone among them.
 fn with_stack_check(on: bool, alone: &[Example]) -> Vec<Worked> {
-    let examples = EXAMPLES.iter().chain(&LONG).chain(alone);
+    let examples = EXAMPLES.iter().chain(&LONG).chain(&ELEMENTS).chain(alone);
     let both = |example: &Example| [example.loaded(), example.stored()];
     let mut all: Vec<Worked> = examples.flat_map(both).collect();
     for worked in &mut all {

@@ -273,7 +273,10 @@ fn refusals() -> Vec<Worked> {
     let outside = {
         let mut case = EXAMPLES[8].case();
         case.memory.truncate(19);
-        let refusal = Refusal::OutsideMemory { address: 19 };
+        let refusal = Refusal::OutsideMemory {
+            address: 19,
+            element: 3,
+        };
         unchanged("the last element outside memory", case, Err(refusal))
     };
     vec![close, short, below, zero, outside]

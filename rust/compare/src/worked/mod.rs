@@ -2,11 +2,12 @@
 //! both programs are held.
 
 mod accesses;
+mod elements;
 mod long_buffers;
 mod stack_check;
 
 use crate::beyond::Beyond;
-use crate::case::{Case, Outcome};
+use crate::case::{Answered, Case, Outcome};
 use crate::names::{self, Answer};
 use second::execute::Mistake;
 use sme_move::Refusal;
@@ -15,7 +16,7 @@ use sme_move::Refusal;
 pub struct Worked {
     pub name: String,
     pub case: Case,
-    /// With the address, where it carries one.
+    /// With the address and the element, where it carries them.
     pub answer: Answer,
     pub z: Vec<u8>,
     pub za: Vec<u8>,
@@ -41,18 +42,29 @@ impl Worked {
         self.hold("archive", &archive)
     }
 
+    /// The answer as numbers.
+    fn answered(&self) -> Answered {
+        let of_refusal = |own: fn(Refusal) -> u64| self.answer.map_or_else(own, |()| 0);
+        (
+            names::number(self.answer),
+            of_refusal(Refusal::address),
+            of_refusal(Refusal::element),
+        )
+    }
+
     /// Holds one program's outcome to what is written out.
     pub fn hold(&self, program: &str, outcome: &Outcome) -> Result<(), String> {
         let wrong = |what: &str| Err(format!("FAILED: {}: {program}: {what}", self.name));
         let Outcome {
-            answer, address, ..
+            answer,
+            address,
+            element,
+            ..
         } = outcome;
-        let wanted = (
-            names::number(self.answer),
-            self.answer.map_or_else(Refusal::address, |()| 0),
-        );
-        if (*answer, *address) != wanted {
-            return wrong(&format!("answer {answer}, address {address:016X}"));
+        if (*answer, *address, *element) != self.answered() {
+            return wrong(&format!(
+                "answer {answer}, address {address:016X}, element {element}"
+            ));
         }
         let case = &self.case;
         let buffers = [

@@ -23,9 +23,9 @@ pub const CHECKED: [Example; 4] = [
 /// The same with the check off: done, or 7.
 pub const UNCHECKED: [Example; 4] = [
     bytes("bytes", HERE, BYTES_MOVED),
-    bytes("bytes, memory elsewhere", ELSEWHERE, outside(0x1008)),
+    bytes("bytes, memory elsewhere", ELSEWHERE, outside(0x1008, 0)),
     last_of_four("the last element active", HERE, LAST_MOVED),
-    last_of_four("memory ends in it", SHORT, outside(0x1016)),
+    last_of_four("memory ends in it", SHORT, outside(0x1016, 3)),
 ];
 
 const MISALIGNED: Expected = Expected::Refused(Refusal::StackMisaligned);

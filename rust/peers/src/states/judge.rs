@@ -58,7 +58,8 @@ fn refusal_kept(case: &Case, own: &Outcome) -> bool {
 }
 
 /// Whether the machine did what the unit's answer says, every byte. After a
-/// signal there are no vector registers to compare.
+/// signal there are no vector registers to compare, and no machine tells the
+/// element that faulted.
 fn same(own: &Outcome, reply: &Reply) -> bool {
     let (number, address) = match reply.end {
         End::Done => {
@@ -68,10 +69,10 @@ fn same(own: &Outcome, reply: &Reply) -> bool {
         End::Signal { number, address } => (number, address),
         End::Died { .. } => return false,
     };
-    let answered = match Refusal::of_number(own.answer, own.address) {
+    let answered = match Refusal::of_number(own.answer, own.address, own.element) {
         Some(Refusal::Undecodable | Refusal::StreamingOff | Refusal::ZaOff) => number == ILLEGAL,
         Some(Refusal::StackMisaligned) => number == BUS,
-        Some(Refusal::OutsideMemory { address: own }) => number == SEGMENT && address == own,
+        Some(Refusal::OutsideMemory { address: own, .. }) => number == SEGMENT && address == own,
         _ => false,
     };
     answered && own.memory == reply.memory

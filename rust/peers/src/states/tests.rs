@@ -60,9 +60,9 @@ fn run(case: &Case) -> Outcome {
 /// The reply of a machine that does what the unit did.
 fn reply_like(own: &Outcome) -> Reply {
     let signal = |number, address| End::Signal { number, address };
-    let end = match Refusal::of_number(own.answer, own.address) {
+    let end = match Refusal::of_number(own.answer, own.address, own.element) {
         None => End::Done,
-        Some(Refusal::OutsideMemory { address }) => signal(11, address),
+        Some(Refusal::OutsideMemory { address, .. }) => signal(11, address),
         Some(Refusal::StackMisaligned) => signal(7, 0),
         Some(_) => signal(4, 0),
     };
@@ -252,6 +252,7 @@ fn a_top_byte_is_no_part_of_an_address_to_linux() {
         &Outcome {
             answer: 0,
             address: 0,
+            element: 0,
             ..own
         },
         &reply,

@@ -14,7 +14,10 @@ pub fn difference(case: &Case, own: &Outcome, reply: &Reply) -> String {
         format!("word {:08X}", case.word),
         operation(case.word),
         settings(case),
-        format!("unit: answer {}, address {:016X}", own.answer, own.address),
+        format!(
+            "unit: answer {}, address {:016X}, element {}",
+            own.answer, own.address, own.element
+        ),
         format!("peer: {}", end(&reply.end)),
     ];
     lines.extend(registers(case));

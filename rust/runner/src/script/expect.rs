@@ -8,6 +8,8 @@ use crate::wording::{counted, direction_name};
 use sme_move::{Direction, Refusal, Settings};
 
 const FORMS: &str = "'expect' is followed by answer, memory, vector, array or tile";
+const ANSWER_FORM: &str = "'expect answer' takes a number, and with 7 also an address, \
+                           and after it the number of an element";
 const TILE_FORM: &str = "'expect tile' takes a tile such as 4:1, horizontal or vertical, \
                          the number of a slice, and its bytes";
 
@@ -20,7 +22,13 @@ const REFUSALS: [Refusal; 6] = [
     Refusal::StackMisaligned,
     SOMEWHERE_OUTSIDE,
 ];
-const SOMEWHERE_OUTSIDE: Refusal = Refusal::OutsideMemory { address: 0 };
+const SOMEWHERE_OUTSIDE: Refusal = Refusal::OutsideMemory {
+    address: 0,
+    element: 0,
+};
+
+/// No slice has more elements, whatever the vector length.
+const MOST_ELEMENTS: usize = 256;
 
 #[derive(Debug, PartialEq)]
 pub enum Expectation {
@@ -35,15 +43,21 @@ pub enum Expectation {
 #[derive(Clone, Copy, Debug, PartialEq)]
 pub enum Answer {
     Exactly(Result<(), Refusal>),
-    /// That an address is not in memory, whichever.
-    OutsideMemory,
+    /// That an address is not in memory: this one, or whichever, and of whichever element.
+    OutsideMemory {
+        address: Option<u64>,
+    },
 }
 
 impl Answer {
     pub fn is(self, found: Result<(), Refusal>) -> bool {
-        match self {
-            Answer::Exactly(answer) => answer == found,
-            Answer::OutsideMemory => matches!(found, Err(Refusal::OutsideMemory { .. })),
+        match (self, found) {
+            (Answer::Exactly(answer), _) => answer == found,
+            (
+                Answer::OutsideMemory { address: expected },
+                Err(Refusal::OutsideMemory { address, .. }),
+            ) => expected.unwrap_or(address) == address,
+            (Answer::OutsideMemory { .. }, _) => false,
         }
     }
 
@@ -51,7 +65,7 @@ impl Answer {
         match self {
             Answer::Exactly(Ok(())) => 0,
             Answer::Exactly(Err(refusal)) => refusal.number(),
-            Answer::OutsideMemory => SOMEWHERE_OUTSIDE.number(),
+            Answer::OutsideMemory { .. } => SOMEWHERE_OUTSIDE.number(),
         }
     }
 }
@@ -119,22 +133,34 @@ impl Expectation {
 }
 
 fn answer(values: &[&str]) -> Result<Expectation, String> {
-    let (number, address) = match values {
-        [number] => (*number, None),
-        [number, address] => (*number, Some(hexadecimal(address)?)),
-        _ => return Err("'expect answer' takes a number, and with 7 also an address".to_string()),
+    let [number, carried @ ..] = values else {
+        return Err(ANSWER_FORM.to_string());
     };
     let answer = decimal(number).and_then(answered).ok_or_else(|| {
         let number = shown(number);
         format!("'{number}' is no answer that a word of a script gets: 0 or 2 to 7, in decimal")
     })?;
-    match (answer, address) {
-        (answer, None) => Ok(Expectation::Answer(answer)),
-        (Answer::OutsideMemory, Some(address)) => {
-            let answer = Answer::Exactly(Err(Refusal::OutsideMemory { address }));
-            Ok(Expectation::Answer(answer))
-        }
-        (_, Some(_)) => Err(format!("only answer 7 has an address, and {number} none")),
+    match answer {
+        Answer::OutsideMemory { .. } => outside(carried).map(Expectation::Answer),
+        answer if carried.is_empty() => Ok(Expectation::Answer(answer)),
+        _ => Err(format!(
+            "only answer 7 has an address and an element, and {number} neither"
+        )),
+    }
+}
+
+/// Answer 7 with what it is to carry, as far as that is told.
+fn outside(carried: &[&str]) -> Result<Answer, String> {
+    match carried {
+        [] => Ok(Answer::OutsideMemory { address: None }),
+        [address] => Ok(Answer::OutsideMemory {
+            address: Some(hexadecimal(address)?),
+        }),
+        [address, element] => Ok(Answer::Exactly(Err(Refusal::OutsideMemory {
+            address: hexadecimal(address)?,
+            element: member("slice's element", MOST_ELEMENTS, element)? as u64,
+        }))),
+        _ => Err(ANSWER_FORM.to_string()),
     }
 }
 
@@ -145,7 +171,7 @@ fn answered(number: u64) -> Option<Answer> {
     }
     let mut refusals = REFUSALS.into_iter();
     match refusals.find(|refusal| u64::from(refusal.number()) == number)? {
-        Refusal::OutsideMemory { .. } => Some(Answer::OutsideMemory),
+        Refusal::OutsideMemory { .. } => Some(Answer::OutsideMemory { address: None }),
         refusal => Some(Answer::Exactly(Err(refusal))),
     }
 }

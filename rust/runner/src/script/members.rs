@@ -29,7 +29,7 @@ pub fn exactly(tokens: &[&str], name: &str, length: usize) -> Result<Vec<u8>, St
     }
 }
 
-/// The number of one of so many registers or vectors.
+/// The number of one of so many registers, vectors or elements.
 pub fn member(name: &str, members: usize, text: &str) -> Result<usize, String> {
     decimal(text)
         .filter(|&number| number < members as u64)

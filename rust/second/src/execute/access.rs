@@ -1,6 +1,7 @@
 //! What loads and stores share: the addresses of their elements, and answers
-//! 6 and 7 (document 01, sections 5 and 6, as requests 2 and 4 amend them).
+//! 6 and 7 (document 01, sections 5 and 6, as requests 2, 4 and 6 amend them).
 
+use super::fault::fault;
 use super::state::State;
 use super::Mistake;
 use crate::flat::Flat;
@@ -47,29 +48,24 @@ pub fn check_stack_pointer(state: &State, operation: &Flat) -> Result<(), Refusa
 /// memory.
 pub fn check_addresses(state: &State, operation: &Flat) -> Result<(), Refusal> {
     for e in 0..elements(state, operation) {
-        if active(state, operation, e) {
-            check_element(state, operation, e)?;
+        if !active(state, operation, e) {
+            continue;
+        }
+        if let Some(i) = first_outside(state, operation, e) {
+            return Err(fault(state, operation, e, i));
         }
     }
     Ok(())
 }
 
-/// Answer 7 for one element, with the address of its first byte outside.
-fn check_element(state: &State, operation: &Flat, e: usize) -> Result<(), Refusal> {
+/// The number of the first byte of element e that is not in memory, if there
+/// is one.
+pub fn first_outside(state: &State, operation: &Flat, e: usize) -> Option<usize> {
     let checked = match state.mistake {
         Mistake::FirstByteChecked => 1,
         _ => element_bytes(operation),
     };
-    let outside = |&i: &usize| !state.memory.has(address(state, operation, e, i));
-    let Some(i) = (0..checked).find(outside) else {
-        return Ok(());
-    };
-    let told = match state.mistake {
-        Mistake::FaultAtElement => 0,
-        _ => i,
-    };
-    let address = address(state, operation, e, told);
-    Err(Refusal::Fault { address })
+    (0..checked).find(|&i| !state.memory.has(address(state, operation, e, i)))
 }
 
 /// The address of byte i of element e: (base + (offset register + e) times m

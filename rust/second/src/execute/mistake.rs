@@ -1,8 +1,9 @@
 //! Deliberate mistakes: those that document 01, section 8 warns of, three
 //! that the words of request 1 invite, six that those of request 2 do, four
 //! that show only in long memory, three that the switch of request 4
-//! invites, and eight that the largest vector length of request 12 does.
-//! With that length equal to B, none of the eight shows.
+//! invites, eight that the largest vector length of request 12 does, and
+//! eight that the element of request 6 does. With that length equal to B, none
+//! of its eight shows; the last eight change nothing but the element.
 //!
 //! Only the comparison runs them, to show that it would notice each.
 
@@ -14,6 +15,10 @@ const LONGEST_ALLOWED: usize = 4096;
 const FIRST_FAR: usize = 1024;
 /// How many numbers have 16 bits.
 const IN_16_BITS: usize = 1 << 16;
+/// The answer that carries an element, and the element of a refusal before it
+/// that the mistake about other answers leaves.
+const OUTSIDE: u8 = 7;
+const LEFT_OVER: u64 = 3;
 
 /// One mistake, or none.
 #[derive(Clone, Copy, Debug, PartialEq, Eq)]
@@ -98,11 +103,31 @@ pub enum Mistake {
     /// The slice number is reduced by the largest length over m: slices that
     /// the tile does not have are found beyond B.
     SlicesByLargest,
+    /// Answer 7 carries the number, within the slice, of the byte outside in
+    /// place of the element's.
+    ElementAsByteOfSlice,
+    /// The same of its number within the element.
+    ElementAsByte,
+    /// For a vertical slice answer 7 carries the number of the ZA vector that
+    /// the element is in.
+    ElementAsVector,
+    /// Answer 7 carries the first active element, outside or not.
+    ElementFirstActive,
+    /// The element is numbered among the active ones alone.
+    ElementAmongActive,
+    /// Answer 7 carries the lowest element outside, active or not.
+    ElementInactive,
+    /// Of the active elements outside, answer 7 carries the one that starts at
+    /// the lowest address.
+    ElementLowestInMemory,
+    /// Only answer 7 writes the element: with every other answer the host
+    /// finds the one of a refusal before.
+    ElementLeftOver,
 }
 
 impl Mistake {
     /// Every mistake, with the name that the command line has for it.
-    pub const NAMED: [(&'static str, Mistake); 31] = [
+    pub const NAMED: [(&'static str, Mistake); 39] = [
         ("TileAsBlock", Mistake::TileAsBlock),
         ("SliceModuloVectorLength", Mistake::SliceModuloVectorLength),
         ("BaseThirtyOneAsZero", Mistake::BaseThirtyOneAsZero),
@@ -140,6 +165,14 @@ impl Mistake {
         ("BeyondCleared", Mistake::BeyondCleared),
         ("GroupsByLargest", Mistake::GroupsByLargest),
         ("SlicesByLargest", Mistake::SlicesByLargest),
+        ("ElementAsByteOfSlice", Mistake::ElementAsByteOfSlice),
+        ("ElementAsByte", Mistake::ElementAsByte),
+        ("ElementAsVector", Mistake::ElementAsVector),
+        ("ElementFirstActive", Mistake::ElementFirstActive),
+        ("ElementAmongActive", Mistake::ElementAmongActive),
+        ("ElementInactive", Mistake::ElementInactive),
+        ("ElementLowestInMemory", Mistake::ElementLowestInMemory),
+        ("ElementLeftOver", Mistake::ElementLeftOver),
     ];
 
     /// The mistake of that name.
@@ -209,5 +242,14 @@ impl Mistake {
             Mistake::LargestBelowAccepted => largest.max(vector_bytes),
             _ => largest,
         }
+    }
+
+    /// The element that the host finds beside an answer of this number: the
+    /// one that goes with it, but for one mistake.
+    pub fn element_seen(self, number: u8, element: u64) -> u64 {
+        if self == Mistake::ElementLeftOver && number != OUTSIDE {
+            return LEFT_OVER;
+        }
+        element
     }
 }

@@ -1,5 +1,5 @@
-//! Execution of one word (document 01, sections 2, 3, 5 and 6, as requests 4
-//! and 12 amend 2 and 6, with the pages of the instructions that requests 1
+//! Execution of one word (document 01, sections 2, 3, 5 and 6, as requests 4,
+//! 6 and 12 amend 2 and 6, with the pages of the instructions that requests 1
 //! and 2 added).
 //!
 //! Written element by element in the manner of Arm's pseudocode: a slice is
@@ -8,6 +8,7 @@
 
 mod access;
 mod checks;
+mod fault;
 mod layout;
 mod load;
 mod memory;
@@ -35,8 +36,8 @@ pub struct Buffers<'a> {
     pub memory: &'a mut [u8],
 }
 
-/// Executes `word` and gives the answer number and the address that goes
-/// with it (section 6): an address with 7, and 0 with every other number.
+/// Executes `word` and gives the answer number, and the address and the
+/// element that go with it (section 6): both are 0 with every number but 7.
 pub fn execute(
     settings: &Settings,
     word: u32,
@@ -45,7 +46,7 @@ pub fn execute(
     p: &[u8],
     za: &mut [u8],
     memory: &mut [u8],
-) -> (u32, u64) {
+) -> (u32, u64, u64) {
     let buffers = Buffers {
         x,
         z,
@@ -63,11 +64,13 @@ pub fn execute_with(
     settings: &Settings,
     word: u32,
     buffers: Buffers,
-) -> (u32, u64) {
-    match run(mistake, settings, word, buffers) {
-        Ok(()) => (0, 0),
-        Err(refusal) => (u32::from(refusal.number()), refusal.address()),
-    }
+) -> (u32, u64, u64) {
+    let (number, address, element) = match run(mistake, settings, word, buffers) {
+        Ok(()) => (0, 0, 0),
+        Err(refusal) => (refusal.number(), refusal.address(), refusal.element()),
+    };
+    let element = mistake.element_seen(number, element);
+    (u32::from(number), address, element)
 }
 
 /// The checks stand in the order of their numbers, since the lowest number

@@ -2,6 +2,7 @@
 //! amends it; page "ST1 (scalar plus scalar, tile slice)").
 
 use super::access;
+use super::fault::fault;
 use super::state::State;
 use super::vector::{split, LARGEST_ELEMENT};
 use super::Mistake;
@@ -43,7 +44,7 @@ fn write_element(
         let address = access::address(state, operation, e, i);
         let written = state.memory.write(address, byte);
         if !written && state.mistake != Mistake::FirstByteChecked {
-            return Err(Refusal::Fault { address });
+            return Err(fault(state, operation, e, i));
         }
     }
     Ok(())

@@ -2,7 +2,7 @@
 //! the pages of LD1 and ST1, and what the mistake makes of it: that and
 //! nothing more.
 
-use super::machine::Machine;
+use super::machine::{Machine, DONE};
 use super::mistakes::right_and_mistaken;
 use crate::execute::Mistake;
 
@@ -24,7 +24,7 @@ fn machine(base: u64, bits: &[usize]) -> Machine {
 /// The mistaken word is done and leaves `left`.
 pub fn mistaken_leaves(machine: &Machine, word: u32, mistake: Mistake, left: &Machine) {
     let mut mistaken = machine.clone();
-    assert_eq!(mistaken.run_with(mistake, word), (0, 0), "{mistake:?}");
+    assert_eq!(mistaken.run_with(mistake, word), DONE, "{mistake:?}");
     assert!(mistaken == *left, "{mistake:?} left another state");
 }
 
@@ -95,11 +95,8 @@ fn offset_not_scaled() {
 fn fault_at_element() {
     let machine = machine(53, &[0, 8]);
     for word in [LOAD_8, STORE_8] {
-        machine.expect_refused(word, 7, 64);
-        let mut mistaken = machine.clone();
-        let answer = mistaken.run_with(Mistake::FaultAtElement, word);
-        assert_eq!(answer, (7, 61));
-        assert!(mistaken == machine);
+        machine.expect_fault(word, 64, 1);
+        machine.expect_answer(Mistake::FaultAtElement, word, (7, 61, 1));
     }
 }
 
@@ -109,19 +106,18 @@ fn fault_at_element() {
 fn first_byte_checked() {
     let mistake = Mistake::FirstByteChecked;
     let mut machine = machine(53, &[0, 8]);
-    machine.expect_refused(STORE_8, 7, 64);
+    machine.expect_fault(STORE_8, 64, 1);
     let mut left = machine.clone();
     left.memory[53..64].copy_from_slice(&machine.za(0)[..11]);
     mistaken_leaves(&machine, STORE_8, mistake, &left);
-    machine.expect_refused(LOAD_8, 7, 64);
+    machine.expect_fault(LOAD_8, 64, 1);
     let mut left = machine.clone();
     left.set_za(0, &[0; 16]);
     left.set_za_part(0, 0, &machine.memory[53..64]);
     mistaken_leaves(&machine, LOAD_8, mistake, &left);
     machine.x[1] = 56;
     for word in [LOAD_8, STORE_8] {
-        let answer = machine.clone().run_with(mistake, word);
-        assert_eq!(answer, (7, 64));
+        machine.expect_answer(mistake, word, (7, 64, 1));
     }
 }
 
@@ -165,12 +161,9 @@ fn wide_store_before_fault() {
     let machine = machine(53, &[0, 8]);
     let mut mistaken = machine.clone();
     let answer = mistaken.run_with(Mistake::StoreBeforeFault, STORE_8);
-    assert_eq!(answer, (7, 64));
+    assert_eq!(answer, (7, 64, 1));
     let mut left = machine.clone();
     left.memory[53..64].copy_from_slice(&machine.za(0)[..11]);
     assert!(mistaken == left);
-    let mut load = machine.clone();
-    let answer = load.run_with(Mistake::StoreBeforeFault, LOAD_8);
-    assert_eq!(answer, (7, 64));
-    assert!(load == machine);
+    machine.expect_answer(Mistake::StoreBeforeFault, LOAD_8, (7, 64, 1));
 }

@@ -106,12 +106,12 @@ fn words_that_do_not_decode() {
         machine.settings.level = level;
         for row in ROWS.iter().filter(accesses) {
             for bits in row.corners() {
-                machine.expect_refused(row.word(&bits) | 0x10, 3, 0);
+                machine.expect_refused(row.word(&bits) | 0x10, 3);
                 if row.element_bytes < 8 {
-                    machine.expect_refused(row.word(&bits) | 0x0100_0000, 3, 0);
+                    machine.expect_refused(row.word(&bits) | 0x0100_0000, 3);
                 }
                 if level == 0 {
-                    machine.expect_refused(row.word(&bits), 3, 0);
+                    machine.expect_refused(row.word(&bits), 3);
                 }
             }
         }
@@ -143,8 +143,8 @@ fn no_active_element() {
             stores(&machine, on_stack(store | bit), at, 0, &[]);
         }
         machine.set_predicate(0, [32 - m]);
-        machine.expect_refused(on_stack(load), 6, 0);
-        machine.expect_refused(on_stack(store), 6, 0);
+        machine.expect_refused(on_stack(load), 6);
+        machine.expect_refused(on_stack(store), 6);
     }
 }
 

@@ -2,7 +2,7 @@
 //! manner of document 01, section 7; the pages of the three instructions
 //! say what is right.
 
-use super::machine::Machine;
+use super::machine::{Machine, DONE};
 use crate::encode::encode;
 use crate::flat::{self, Flat};
 use crate::refusal::Refusal;
@@ -18,9 +18,9 @@ fn the_level_decides() {
             let mut machine = Machine::new(16);
             machine.settings.level = level;
             if level < least {
-                machine.expect_refused(word, 3, 0);
+                machine.expect_refused(word, 3);
             } else {
-                assert_eq!(machine.run(word), (0, 0), "{word:08X}");
+                assert_eq!(machine.run(word), DONE, "{word:08X}");
             }
         }
     }
@@ -32,9 +32,9 @@ fn both_switches_matter() {
     for (word, _) in LEAST_LEVELS {
         let mut machine = Machine::new(16);
         machine.settings.za_on = false;
-        machine.expect_refused(word, 5, 0);
+        machine.expect_refused(word, 5);
         machine.settings.streaming = false;
-        machine.expect_refused(word, 4, 0);
+        machine.expect_refused(word, 4);
     }
 }
 
@@ -46,12 +46,12 @@ fn bit_nine_is_looked_at() {
     machine.set_all_active(0);
     for level in [1, 2] {
         machine.settings.level = level;
-        machine.expect_refused(0xC002_0200, 3, 0);
+        machine.expect_refused(0xC002_0200, 3);
     }
     for level in 0..=3 {
         machine.settings.level = level;
         for word in [0xC002_0600, 0xC042_0A00, 0xC082_1200, 0xC0C3_1E00] {
-            machine.expect_refused(word, 3, 0);
+            machine.expect_refused(word, 3);
         }
     }
 }
@@ -203,7 +203,7 @@ fn first_registers_between_the_groups() {
     ];
     for (base, kind, vectors) in forms {
         for first in (0..32).filter(|first| first % vectors != 0) {
-            machine.expect_refused(base | u32::from(first), 3, 0);
+            machine.expect_refused(base | u32::from(first), 3);
             let numbers = [kind, 0, 0, 0, 0, 8, 0, first, 0, 0, vectors];
             assert_eq!(encode(&Flat::from_bytes(numbers)), Err(Refusal::Field));
         }

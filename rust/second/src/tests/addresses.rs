@@ -1,6 +1,6 @@
 //! Worked examples of our own for the addresses of loads and stores: the
 //! ends of memory, the end of all addresses, and what answer 7 carries
-//! (sections 5 and 6 as request 2 amends them).
+//! (sections 5 and 6 as requests 2 and 6 amend them).
 
 use super::machine::Machine;
 use super::slices::{SIZES, VERTICAL};
@@ -22,13 +22,13 @@ fn with_active(machine: &Machine, m: usize, elements: &[usize]) -> Machine {
     other
 }
 
-/// Load and store of that size, of rows and of columns, fault at `address`
-/// and change nothing.
-fn fault(machine: &Machine, m: usize, address: u64) {
+/// Load and store of that size, of rows and of columns, fault at `address` for
+/// element e, and change nothing.
+fn fault(machine: &Machine, m: usize, address: u64, e: usize) {
     for (_, load, store) in SIZES.into_iter().filter(|size| size.0 == m) {
         for bit in [0, VERTICAL] {
-            machine.expect_refused(load | bit, 7, address);
-            machine.expect_refused(store | bit, 7, address);
+            machine.expect_fault(load | bit, address, e as u64);
+            machine.expect_fault(store | bit, address, e as u64);
         }
     }
 }
@@ -55,9 +55,9 @@ fn done(machine: &Machine, m: usize, e: usize, first: usize) {
 fn an_element_over_the_end_of_memory() {
     let mut machine = machine(16, 0x2036, 0);
     machine.settings.memory_address = 0x2000;
-    fault(&machine, 4, 0x2040);
-    fault(&with_active(&machine, 4, &[2]), 4, 0x2040);
-    fault(&with_active(&machine, 4, &[3]), 4, 0x2042);
+    fault(&machine, 4, 0x2040, 2);
+    fault(&with_active(&machine, 4, &[2]), 4, 0x2040, 2);
+    fault(&with_active(&machine, 4, &[3]), 4, 0x2042, 3);
     done(&machine, 4, 0, 0x36);
     done(&machine, 4, 1, 0x3A);
 }
@@ -70,9 +70,10 @@ fn every_byte_of_the_last_element() {
         for i in 0..m {
             let mut machine = machine(32, 0x1_0001, 0);
             machine.set_memory(0x1_0000, 1 + 32 - m + i);
-            fault(&machine, m, 0x1_0001 + 32 - (m - i) as u64);
+            let last = 32 / m - 1;
+            fault(&machine, m, 0x1_0001 + 32 - (m - i) as u64, last);
             machine.set_memory(0x1_0000, 1 + 32);
-            done(&machine, m, 32 / m - 1, 1 + 32 - m);
+            done(&machine, m, last, 1 + 32 - m);
         }
     }
 }
@@ -83,7 +84,7 @@ fn every_byte_of_the_last_element() {
 fn an_element_over_the_start_of_memory() {
     let mut machine = machine(16, 0x1FFD, 0);
     machine.settings.memory_address = 0x2000;
-    fault(&machine, 8, 0x1FFD);
+    fault(&machine, 8, 0x1FFD, 0);
     done(&machine, 8, 1, 5);
 }
 
@@ -93,15 +94,15 @@ fn an_element_over_the_start_of_memory() {
 #[test]
 fn an_element_over_the_last_address() {
     let mut low = machine(32, u64::MAX - 11, 0);
-    fault(&low, 8, u64::MAX - 11);
-    fault(&with_active(&low, 8, &[1, 2]), 8, u64::MAX - 3);
+    fault(&low, 8, u64::MAX - 11, 0);
+    fault(&with_active(&low, 8, &[1, 2]), 8, u64::MAX - 3, 1);
     done(&low, 8, 2, 4);
     done(&low, 8, 3, 12);
     low.settings.memory_address = u64::MAX - 63;
     let high = low;
-    fault(&high, 8, 0);
-    fault(&with_active(&high, 8, &[1, 3]), 8, 0);
-    fault(&with_active(&high, 8, &[2]), 8, 4);
+    fault(&high, 8, 0, 1);
+    fault(&with_active(&high, 8, &[1, 3]), 8, 0, 1);
+    fault(&with_active(&high, 8, &[2]), 8, 4, 2);
     done(&high, 8, 0, 52);
 }
 
@@ -115,10 +116,10 @@ fn memory_at_both_ends_of_all_addresses() {
         done(&machine, m, 0, 0);
         machine.settings.memory_address = u64::MAX - 63;
         machine.x[1] = u64::MAX - 15;
-        done(&machine, m, 16 / m - 1, 64 - m);
+        let last = 16 / m - 1;
+        done(&machine, m, last, 64 - m);
         machine.x[1] += 1;
-        let last = with_active(&machine, m, &[16 / m - 1]);
-        fault(&last, m, 0);
+        fault(&with_active(&machine, m, &[last]), m, 0, last);
     }
 }
 
@@ -128,13 +129,13 @@ fn memory_at_both_ends_of_all_addresses() {
 #[test]
 fn the_lowest_element_outside() {
     let low = with_active(&machine(16, 54, 0), 2, &[1, 3, 5, 7]);
-    fault(&low, 2, 64);
+    fault(&low, 2, 64, 5);
     let mut high = with_active(&machine(16, u64::MAX - 8, 0), 2, &[1, 3, 5, 7]);
     high.settings.memory_address = u64::MAX - 63;
     // Element 3 is at 2^64 - 3, element 5 at 1.
-    fault(&high, 2, 1);
+    fault(&high, 2, 1, 5);
     high.memory.truncate(60);
-    fault(&high, 2, u64::MAX - 2);
+    fault(&high, 2, u64::MAX - 2, 3);
 }
 
 /// The offset register and the element number are both multiplied by m, and

@@ -1,7 +1,8 @@
 //! The answers of document 01, section 6: when each is given, and that the
 //! lowest goes first.
 
-use super::machine::Machine;
+use super::machine::{plain, Machine, DONE};
+use crate::execute::Mistake;
 
 /// A move, a store, one word of each instruction that request 1 added, and
 /// loads and stores of other sizes with the same registers. All are done on
@@ -40,7 +41,7 @@ fn good(vector_bytes: usize) -> Machine {
 /// Every word is refused with that number.
 fn refused(machine: &Machine, answer: u32) {
     for word in WORDS {
-        machine.expect_refused(word, answer, 0);
+        machine.expect_refused(word, answer);
     }
 }
 
@@ -48,7 +49,7 @@ fn refused(machine: &Machine, answer: u32) {
 fn good_machines_are_done() {
     for vector_bytes in [16, 32, 64, 128, 256] {
         for word in WORDS {
-            assert_eq!(good(vector_bytes).run(word), (0, 0));
+            assert_eq!(good(vector_bytes).run(word), DONE);
         }
     }
 }
@@ -110,15 +111,15 @@ fn memory_ends_at_the_last_address() {
     machine.settings.memory_address = u64::MAX - 299;
     machine.x[31] = u64::MAX - 15;
     for word in WORDS {
-        assert_eq!(machine.clone().run(word), (0, 0));
+        assert_eq!(machine.clone().run(word), DONE);
     }
     machine.settings.memory_address += 1;
     refused(&machine, 2);
     machine.memory.clear();
     machine.settings.memory_address = u64::MAX;
-    assert_eq!(machine.clone().run(WORDS[0]), (0, 0));
+    assert_eq!(machine.clone().run(WORDS[0]), DONE);
     for word in ACCESSES {
-        machine.expect_refused(word, 7, u64::MAX - 15);
+        machine.expect_fault(word, u64::MAX - 15, 0);
     }
 }
 
@@ -127,39 +128,39 @@ fn memory_ends_at_the_last_address() {
 /// cause.
 #[test]
 fn the_lowest_number_is_given() {
-    let off = ACCESSES.map(|word| (word, false, 7, (1 << 40) + 8));
-    let on = ACCESSES.map(|word| (word, true, 6, 0));
-    for (word, stack_check, misaligned, address) in off.into_iter().chain(on) {
+    let off = ACCESSES.map(|word| (word, false, (7, (1 << 40) + 8, 0)));
+    let on = ACCESSES.map(|word| (word, true, plain(6)));
+    for (word, stack_check, misaligned) in off.into_iter().chain(on) {
         let mut machine = good(16);
         machine.settings.stack_check = stack_check;
         machine.x[31] = 1 << 40;
-        machine.expect_refused(word, 7, 1 << 40);
+        machine.expect_fault(word, 1 << 40, 0);
         machine.x[31] += 8;
-        machine.expect_refused(word, misaligned, address);
+        machine.expect_answer(Mistake::None, word, misaligned);
         machine.settings.za_on = false;
-        machine.expect_refused(word, 5, 0);
+        machine.expect_refused(word, 5);
         machine.settings.streaming = false;
-        machine.expect_refused(word, 4, 0);
-        machine.expect_refused(NO_ENCODING, 3, 0);
+        machine.expect_refused(word, 4);
+        machine.expect_refused(NO_ENCODING, 3);
         machine.settings.level = 0;
-        machine.expect_refused(word, 3, 0);
+        machine.expect_refused(word, 3);
         machine.za.pop();
-        machine.expect_refused(word, 2, 0);
+        machine.expect_refused(word, 2);
         machine.settings.vector_bytes = 0;
-        machine.expect_refused(word, 1, 0);
+        machine.expect_refused(word, 1);
     }
 }
 
-/// Answer 7 carries the address of the lowest-numbered element outside,
+/// Answer 7 carries the lowest-numbered element outside and its address,
 /// which need not be the lowest address, nor that of element 0.
 #[test]
-fn the_address_of_the_lowest_element_outside() {
+fn the_lowest_element_outside_and_its_address() {
     let mut machine = Machine::new(16);
     machine.settings.memory_address = 0x2000;
     machine.x[1] = 0x2000 + 60;
     machine.x[2] = 0;
     machine.set_predicate(0, [1, 2, 3, 6, 9]);
-    machine.expect_refused(0xE022_0020, 7, 0x2042);
+    machine.expect_fault(0xE022_0020, 0x2042, 6);
     machine.x[1] = u64::MAX - 1;
-    machine.expect_refused(0xE022_0020, 7, u64::MAX);
+    machine.expect_fault(0xE022_0020, u64::MAX, 1);
 }

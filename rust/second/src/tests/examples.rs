@@ -43,7 +43,7 @@ fn example_3_words_without_an_encoding() {
             let mut machine = Machine::new(16);
             machine.set_all_active(0);
             machine.settings.level = level;
-            machine.expect_refused(word, 3, 0);
+            machine.expect_refused(word, 3);
         }
     }
 }
@@ -67,7 +67,7 @@ fn example_5_the_level_decides() {
     let mut machine = Machine::new(16);
     machine.set_w(12, 18);
     machine.settings.level = 2;
-    machine.expect_refused(0xC002_0200, 3, 0);
+    machine.expect_refused(0xC002_0200, 3);
     machine.settings.level = 3;
     let mut wanted = machine.clone();
     wanted.set_z(0, &machine.za(2));
@@ -110,7 +110,7 @@ fn example_7_four_vectors() {
 fn example_8_two_vectors() {
     let mut machine = Machine::new(16);
     machine.set_w(8, 6);
-    machine.expect_refused(0xC006_0A01, 3, 0);
+    machine.expect_refused(0xC006_0A01, 3);
     let mut wanted = machine.clone();
     for (register, vector) in [(10, 1), (11, 9)] {
         wanted.set_z(register, &machine.za(vector));
@@ -129,7 +129,7 @@ fn example_9_the_stack_pointer() {
         machine.settings.memory_address = 0x1000;
         machine.x[31] = 0x1008;
         machine.set_predicate(0, [element]);
-        machine.expect_refused(0xE03F_03E0, 6, 0);
+        machine.expect_refused(0xE03F_03E0, 6);
     }
     for stack_check in [true, false] {
         let mut machine = Machine::new(16);
@@ -149,7 +149,7 @@ fn example_10_addresses_wrap() {
     machine.x[2] = 4;
     let mut part = machine.clone();
     machine.set_all_active(0);
-    machine.expect_refused(0xE022_0020, 7, 0xFFFF_FFFF_FFFF_FFFC);
+    machine.expect_fault(0xE022_0020, 0xFFFF_FFFF_FFFF_FFFC, 0);
     part.set_predicate(0, 4..16);
     let mut wanted = part.clone();
     wanted.memory[..12].copy_from_slice(&part.za(9)[4..]);
@@ -164,9 +164,9 @@ fn example_12_both_switches_off() {
     machine.settings.level = 1;
     machine.settings.streaming = false;
     machine.settings.za_on = false;
-    machine.expect_refused(0xC000_0000, 4, 0);
+    machine.expect_refused(0xC000_0000, 4);
     machine.settings.streaming = true;
-    machine.expect_refused(0xC000_0000, 5, 0);
+    machine.expect_refused(0xC000_0000, 5);
 }
 
 /// Example 13: bits 1, 2 and 3 do not make element 0 of four bytes active;

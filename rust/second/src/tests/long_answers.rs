@@ -3,7 +3,7 @@
 //! they fix.
 
 use super::long_states::pairs;
-use super::machine::Machine;
+use super::machine::{Machine, DONE};
 use crate::execute::VECTOR_LENGTHS;
 use crate::inputs::rows::ROWS;
 
@@ -11,9 +11,9 @@ use crate::inputs::rows::ROWS;
 /// with that number.
 fn refused(machine: &Machine, answer: u32) {
     for row in &ROWS {
-        machine.expect_refused(row.word(&row.lowest()), answer, 0);
+        machine.expect_refused(row.word(&row.lowest()), answer);
     }
-    machine.expect_refused(0xC000_0010, answer, 0);
+    machine.expect_refused(0xC000_0010, answer);
 }
 
 /// Answer 1: a largest length that is none of the five, below or above B.
@@ -56,7 +56,7 @@ fn the_largest_length_is_not_below() {
             if below < vector_bytes {
                 refused(&machine, 1);
             } else {
-                assert_eq!(machine.run(0xC000_0000), (0, 0));
+                assert_eq!(machine.run(0xC000_0000), DONE);
             }
         }
     }
@@ -73,7 +73,7 @@ fn fifteen_pairs_are_accepted() {
         assert_eq!(machine.p.len(), 16 * largest / 8);
         assert_eq!(machine.za.len(), largest * largest);
         for row in ROWS.iter() {
-            assert_eq!(machine.run(row.word(&row.lowest())), (0, 0));
+            assert_eq!(machine.run(row.word(&row.lowest())), DONE);
         }
     }
 }

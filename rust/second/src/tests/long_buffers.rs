@@ -3,14 +3,14 @@
 //! and never matters.
 
 use super::long_states::{embedded, pairs, state, words, FILLS};
-use super::machine::Machine;
+use super::machine::{Answer, Machine, DONE};
 use crate::inputs::random::Random;
 use std::collections::BTreeSet;
 
 /// Checks the word in longer buffers, with either content beyond B, against
 /// the buffers for B: the same answer, the same bytes within, and those
 /// beyond as they were. Gives the answer.
-fn as_in_short_buffers(narrow: &Machine, word: u32, largest: usize) -> (u32, u64) {
+fn as_in_short_buffers(narrow: &Machine, word: u32, largest: usize) -> Answer {
     let mut left = narrow.clone();
     let answer = left.run(word);
     for fill in FILLS {
@@ -28,7 +28,7 @@ fn every_encoding_is_done_as_in_short_buffers() {
     for (vector_bytes, largest) in pairs() {
         for word in words(&mut random) {
             let narrow = state(vector_bytes, word, &mut random);
-            assert_eq!(as_in_short_buffers(&narrow, word, largest), (0, 0));
+            assert_eq!(as_in_short_buffers(&narrow, word, largest), DONE);
         }
     }
 }
@@ -48,7 +48,7 @@ fn every_encoding_is_refused_as_in_short_buffers() {
             narrow.x[31] += 8;
             answers.insert(as_in_short_buffers(&narrow, word, largest).0);
             narrow.p.fill(0);
-            assert_eq!(as_in_short_buffers(&narrow, word, largest), (0, 0));
+            assert_eq!(as_in_short_buffers(&narrow, word, largest), DONE);
         }
     }
     assert_eq!(answers, BTreeSet::from([0, 6, 7]));

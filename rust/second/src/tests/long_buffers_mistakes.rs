@@ -7,7 +7,7 @@
 
 use super::access_mistakes::mistaken_leaves;
 use super::long_states::{state, words};
-use super::machine::Machine;
+use super::machine::{plain, Machine, DONE};
 use super::memory_mistakes::both_right;
 use super::mistakes::right_and_mistaken;
 use crate::execute::{Mistake, VECTOR_LENGTHS};
@@ -127,7 +127,7 @@ fn lengths_by_vector_length() {
     short.set_w(12, 2);
     short.set_all_active(0);
     short.settings.largest_vector_bytes = 32;
-    short.expect_refused(0xC000_0000, 2, 0);
+    short.expect_refused(0xC000_0000, 2);
     let mut left = short.clone();
     left.za[32..48].copy_from_slice(&short.z[..16]);
     mistaken_leaves(&short, 0xC000_0000, mistake, &left);
@@ -135,9 +135,7 @@ fn lengths_by_vector_length() {
 
 /// The mistaken word is refused with that answer.
 fn mistaken_refuses(machine: &Machine, word: u32, mistake: Mistake, answer: u32) {
-    let mut mistaken = machine.clone();
-    assert_eq!(mistaken.run_with(mistake, word), (answer, 0), "{mistake:?}");
-    assert!(mistaken == *machine, "{word:08X} was refused and wrote");
+    machine.expect_answer(mistake, word, plain(answer));
 }
 
 /// B 32 with a largest length of 16: in buffers for 32 the word is done as
@@ -150,13 +148,13 @@ fn largest_below_accepted() {
     machine.set_w(12, 2);
     machine.set_all_active(0);
     machine.settings.largest_vector_bytes = 16;
-    machine.expect_refused(0xC000_0000, 1, 0);
+    machine.expect_refused(0xC000_0000, 1);
     let mut left = machine.clone();
     left.za[64..96].copy_from_slice(&machine.z[..32]);
     mistaken_leaves(&machine, 0xC000_0000, mistake, &left);
     let mut short = Machine::new(16);
     short.settings.vector_bytes = 32;
-    short.expect_refused(0xC000_0000, 1, 0);
+    short.expect_refused(0xC000_0000, 1);
     mistaken_refuses(&short, 0xC000_0000, mistake, 2);
     for largest in [0, 8, 24, 512] {
         machine.settings.largest_vector_bytes = largest;
@@ -255,7 +253,7 @@ fn none_shows_in_short_buffers() {
         for word in words(&mut random) {
             let machine = state(vector_bytes, word, &mut random);
             let mut right = machine.clone();
-            assert_eq!(right.run(word), (0, 0));
+            assert_eq!(right.run(word), DONE);
             for mistake in MISTAKES {
                 mistaken_leaves(&machine, word, mistake, &right);
             }

@@ -2,6 +2,16 @@
 
 use crate::execute::{execute_with, Buffers, Mistake, Settings};
 
+/// The number, the address and the element that a word is answered with.
+pub type Answer = (u32, u64, u64);
+
+pub const DONE: Answer = plain(0);
+
+/// An answer with no address and no element, as every one but 7 is.
+pub const fn plain(number: u32) -> Answer {
+    (number, 0, 0)
+}
+
 /// Settings and buffers of the lengths that they fix.
 #[derive(Clone, Debug, PartialEq)]
 pub struct Machine {
@@ -110,12 +120,12 @@ impl Machine {
     }
 
     /// Executes a word.
-    pub fn run(&mut self, word: u32) -> (u32, u64) {
+    pub fn run(&mut self, word: u32) -> Answer {
         self.run_with(Mistake::None, word)
     }
 
     /// Executes a word with a mistake.
-    pub fn run_with(&mut self, mistake: Mistake, word: u32) -> (u32, u64) {
+    pub fn run_with(&mut self, mistake: Mistake, word: u32) -> Answer {
         let buffers = Buffers {
             x: &self.x,
             z: &mut self.z,
@@ -128,14 +138,29 @@ impl Machine {
 
     /// Executes a word that is answered done and must leave `wanted`.
     pub fn expect_done(mut self, word: u32, wanted: &Machine) {
-        assert_eq!(self.run(word), (0, 0), "{word:08X}");
+        assert_eq!(self.run(word), DONE, "{word:08X}");
         assert!(self == *wanted, "{word:08X} left another state");
     }
 
-    /// Executes a word that is refused and must leave everything as it was.
-    pub fn expect_refused(&self, word: u32, answer: u32, address: u64) {
+    /// Executes a word that is refused with any number but 7.
+    pub fn expect_refused(&self, word: u32, number: u32) {
+        self.expect_answer(Mistake::None, word, plain(number));
+    }
+
+    /// Executes a word that is refused with 7 for that element.
+    pub fn expect_fault(&self, word: u32, address: u64, element: u64) {
+        self.expect_answer(Mistake::None, word, (7, address, element));
+    }
+
+    /// Executes a word, with a mistake or none, that gets this answer and must
+    /// leave everything as it was.
+    pub fn expect_answer(&self, mistake: Mistake, word: u32, answer: Answer) {
         let mut after = self.clone();
-        assert_eq!(after.run(word), (answer, address), "{word:08X}");
-        assert!(after == *self, "{word:08X} was refused and wrote");
+        let found = after.run_with(mistake, word);
+        assert_eq!(found, answer, "{mistake:?}, {word:08X}");
+        assert!(
+            after == *self,
+            "{mistake:?}, {word:08X} was refused and wrote"
+        );
     }
 }

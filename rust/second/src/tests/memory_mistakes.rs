@@ -3,7 +3,7 @@
 //! in short memory, and what the mistake makes of it.
 
 use super::access_mistakes::mistaken_leaves;
-use super::machine::Machine;
+use super::machine::{plain, Answer, Machine};
 use super::mistakes::right_and_mistaken;
 use crate::execute::Mistake;
 
@@ -47,18 +47,9 @@ pub fn both_right(machine: &Machine, word: u32, mistake: Mistake, wanted: &Machi
 }
 
 /// The word is done and leaves `wanted`; with the mistake it is refused.
-fn refused(
-    machine: &Machine,
-    word: u32,
-    mistake: Mistake,
-    wanted: &Machine,
-    answer: u32,
-    address: u64,
-) {
+fn refused(machine: &Machine, word: u32, mistake: Mistake, wanted: &Machine, answer: Answer) {
     right_and_mistaken(machine, word, mistake, wanted);
-    let mut mistaken = machine.clone();
-    assert_eq!(mistaken.run_with(mistake, word), (answer, address));
-    assert!(mistaken == *machine, "{word:08X} was refused and wrote");
+    machine.expect_answer(mistake, word, answer);
 }
 
 /// 4,096 bytes pass and 4,097 do not, though the word may not even look.
@@ -77,7 +68,7 @@ fn long_memory_refused() {
             if length == 4096 {
                 both_right(&machine, word, mistake, &wanted);
             } else {
-                refused(&machine, word, mistake, &wanted, 2, 0);
+                refused(&machine, word, mistake, &wanted, plain(2));
             }
         }
     }
@@ -93,8 +84,9 @@ fn far_bytes_outside() {
         both_right(&machine, STORE_4, mistake, &stored(&machine, 1008));
     }
     let machine = machine(1025, 1009);
-    refused(&machine, LOAD_4, mistake, &loaded(&machine, 1009), 7, 1024);
-    refused(&machine, STORE_4, mistake, &stored(&machine, 1009), 7, 1024);
+    let answer = (7, 1024, 3);
+    refused(&machine, LOAD_4, mistake, &loaded(&machine, 1009), answer);
+    refused(&machine, STORE_4, mistake, &stored(&machine, 1009), answer);
 }
 
 /// Of 65,536 bytes and 40 only the 40 are found.
@@ -105,8 +97,8 @@ fn memory_length_in_16_bits() {
     both_right(&at_24, LOAD_4, mistake, &loaded(&at_24, 24));
     both_right(&at_24, STORE_4, mistake, &stored(&at_24, 24));
     let at_25 = machine(65_536 + 40, 25);
-    refused(&at_25, LOAD_4, mistake, &loaded(&at_25, 25), 7, 40);
-    refused(&at_25, STORE_4, mistake, &stored(&at_25, 25), 7, 40);
+    refused(&at_25, LOAD_4, mistake, &loaded(&at_25, 25), (7, 40, 3));
+    refused(&at_25, STORE_4, mistake, &stored(&at_25, 25), (7, 40, 3));
     let longest = machine(65_535, 65_519);
     both_right(&longest, LOAD_4, mistake, &loaded(&longest, 65_519));
 }
@@ -124,7 +116,6 @@ fn memory_offset_in_16_bits() {
     let near = machine(65_536 + 21, 65_520);
     both_right(&near, STORE_4, mistake, &stored(&near, 65_520));
     let over = machine(65_536 + 20, 65_541);
-    over.expect_refused(STORE_4, 7, 65_556);
-    let answer = over.clone().run_with(mistake, STORE_4);
-    assert_eq!(answer, (7, 65_556));
+    over.expect_fault(STORE_4, 65_556, 3);
+    over.expect_answer(mistake, STORE_4, (7, 65_556, 3));
 }

@@ -2,7 +2,7 @@
 //! request 1 added. Each test states what is right by section 5 and shows
 //! that the mistaken run gives something else.
 
-use super::machine::Machine;
+use super::machine::{plain, Machine, DONE};
 use crate::execute::Mistake;
 
 /// The word leaves `wanted`, and with the mistake it does not.
@@ -10,7 +10,7 @@ pub fn right_and_mistaken(machine: &Machine, word: u32, mistake: Mistake, wanted
     machine.clone().expect_done(word, wanted);
     let mut mistaken = machine.clone();
     let answer = mistaken.run_with(mistake, word);
-    assert!(answer != (0, 0) || mistaken != *wanted, "{mistake:?}");
+    assert!(answer != DONE || mistaken != *wanted, "{mistake:?}");
 }
 
 /// The rows of tile 1 of four bytes are vectors 1, 5, 9 and on, not the
@@ -112,10 +112,10 @@ fn store_before_fault() {
     machine.set_all_active(0);
     machine.x[1] = 60;
     machine.x[2] = 0;
-    machine.expect_refused(0xE022_0020, 7, 64);
+    machine.expect_fault(0xE022_0020, 64, 4);
     let mut mistaken = machine.clone();
     let answer = mistaken.run_with(Mistake::StoreBeforeFault, 0xE022_0020);
-    assert_eq!(answer, (7, 64));
+    assert_eq!(answer, (7, 64, 4));
     assert!(mistaken != machine);
 }
 
@@ -204,9 +204,9 @@ fn bit_nine_ignored() {
         (0xC002_0600, 3, 0),
     ] {
         machine.settings.level = level;
-        machine.expect_refused(word, 3, 0);
+        machine.expect_refused(word, 3);
         let mistaken = machine.clone().run_with(mistake, word);
-        assert_eq!(mistaken, (answer, 0), "{word:08X}");
+        assert_eq!(mistaken, plain(answer), "{word:08X}");
     }
 }
 

@@ -42,7 +42,7 @@ pub fn loaded(machine: &Machine) -> Machine {
 fn on_it_is_refused() {
     for address in [0x1000, 0x2000] {
         for word in [STORE, LOAD] {
-            example(true, address).expect_refused(word, 6, 0);
+            example(true, address).expect_refused(word, 6);
         }
     }
 }
@@ -61,7 +61,7 @@ fn off_it_is_done() {
 fn off_it_faults() {
     for address in [0, 0x1009, 0x2000] {
         for word in [STORE, LOAD] {
-            example(false, address).expect_refused(word, 7, STACK_POINTER);
+            example(false, address).expect_fault(word, STACK_POINTER, 0);
         }
     }
 }
@@ -84,8 +84,8 @@ fn off_every_stack_pointer_is_a_base() {
                 // Base 31 in place of 1.
                 let [load, store] = [load, store].map(|word| word | bit | 0x3E0);
                 if over != 0 {
-                    machine.expect_refused(load, 6, 0);
-                    machine.expect_refused(store, 6, 0);
+                    machine.expect_refused(load, 6);
+                    machine.expect_refused(store, 6);
                 }
                 machine.settings.stack_check = false;
                 let (tile, s) = (0, 1);

@@ -3,7 +3,7 @@
 //! more.
 
 use super::access_mistakes::mistaken_leaves;
-use super::machine::Machine;
+use super::machine::{plain, Machine};
 use super::stack_check::{example, loaded, stored, LOAD, STORE};
 use crate::execute::Mistake;
 
@@ -12,9 +12,7 @@ const ADDRESS: u64 = 0x1000;
 
 /// The mistaken word is refused with 6.
 fn mistaken_refuses(machine: &Machine, word: u32, mistake: Mistake) {
-    let mut mistaken = machine.clone();
-    assert_eq!(mistaken.run_with(mistake, word), (6, 0), "{mistake:?}");
-    assert!(mistaken == *machine, "{word:08X} was refused and wrote");
+    machine.expect_answer(mistake, word, plain(6));
 }
 
 /// With the check on nothing goes wrong: both words are refused.

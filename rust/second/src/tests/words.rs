@@ -81,9 +81,13 @@ fn neighbours_of_example_eleven_encode() {
 }
 
 /// Section 6 and request 9: the numbers of the refusals; only 7 carries an
-/// address.
+/// address and an element.
 #[test]
 fn refusal_numbers() {
+    let fault = Refusal::Fault {
+        address: 9,
+        element: 5,
+    };
     let numbered = [
         (Refusal::Level, 1),
         (Refusal::VectorLength, 1),
@@ -92,14 +96,15 @@ fn refusal_numbers() {
         (Refusal::StreamingOff, 4),
         (Refusal::ZaOff, 5),
         (Refusal::StackPointer, 6),
-        (Refusal::Fault { address: 9 }, 7),
+        (fault, 7),
         (Refusal::Field, 8),
         (Refusal::NoFreeTile, 13),
         (Refusal::Held, 16),
     ];
     for (refusal, number) in numbered {
         assert_eq!(refusal.number(), number);
-        assert_eq!(refusal.address(), if number == 7 { 9 } else { 0 });
+        let carried = (refusal.address(), refusal.element());
+        assert_eq!(carried, if number == 7 { (9, 5) } else { (0, 0) });
     }
 }
 

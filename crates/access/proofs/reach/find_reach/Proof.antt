@@ -49,9 +49,9 @@ first-fault-requires c κs =
 
 returns-3 : tie.Need-returns-3
 returns-3 c =
-    let a = c .before .before .before .before .before .before .before .before .before .before .before .before .before .args in
-    reaches-fault (a .settings) (a .x .now) (a .p .now) (a .memory-bytes) (sliceAccess (a .slice) (a .pg) (a .rn) (a .rm)) (c .before .before .before .before .before .before .first-address .result) (c .before .before .before .before .before .wrapping-sub-u64 .result) (c .before .before .before .before .before .before .first-address .ensures) (c .before .before .before .before .before .wrapping-sub-u64 .ensures) (c .before .before .before .before .before .before .before .before .before .before .before .before .before .pre .0 .memory)
-    (stack (c .before .before .before .before .before .before .before .before) false (c .before .before .before .before .before .before .before .if1 .left)) (c .before .before .before .window-of .result) (c .before .before .before .window-of .ensures) (c .before .before .first-fault .result) (rw (c .before .before .before .before .before .before .before .before .before .before .predicate-start .ensures) at (c .before .before .first-fault .ensures)) (c .before .if4 .taken) _ (c .wrapping-add-u64 .ensures)
+    let a = c .before .before .before .before .before .before .before .before .before .before .before .before .before .before .args in
+    reaches-fault (a .settings) (a .x .now) (a .p .now) (a .memory-bytes) (sliceAccess (a .slice) (a .pg) (a .rn) (a .rm)) (c .before .before .before .before .before .before .before .first-address .result) (c .before .before .before .before .before .before .wrapping-sub-u64 .result) (c .before .before .before .before .before .before .before .first-address .ensures) (c .before .before .before .before .before .before .wrapping-sub-u64 .ensures) (c .before .before .before .before .before .before .before .before .before .before .before .before .before .before .pre .0 .memory)
+    (stack (c .before .before .before .before .before .before .before .before .before) false (c .before .before .before .before .before .before .before .before .if1 .left)) (c .before .before .before .before .window-of .result) (c .before .before .before .before .window-of .ensures) (c .before .before .before .first-fault .result) (rw (c .before .before .before .before .before .before .before .before .before .before .before .predicate-start .ensures) at (c .before .before .before .first-fault .ensures)) (c .before .before .if4 .taken) _ (c .before .wrapping-add-u64 .ensures) (c .elements-in .ensures)
 
 returns-4 : tie.Need-returns-4
 returns-4 c =
@@ -73,6 +73,7 @@ find-reach-spec =
     returns-2
     window-of-requires
     first-fault-requires
+    (λ c κs. search needs)
     (λ c κs. search needs)
     returns-3
     returns-4)

@@ -2,8 +2,12 @@
 //! built as the archive's call is, a function of the binding that calls one
 //! with the arguments that the archive's has.
 
+use compare::case::Answered;
 use sme_move::{Buffers, Settings};
 use std::hint::black_box;
+
+/// How many results the binding asks for.
+const RESULTS: usize = 2;
 
 /// The arguments of the archive's function.
 type Function = extern "C" fn(
@@ -19,7 +23,7 @@ type Function = extern "C" fn(
     usize,
     *mut u8,
     usize,
-    &mut u64,
+    &mut [u64; RESULTS],
     usize,
     u32,
 ) -> u32;
@@ -39,19 +43,19 @@ extern "C" fn nothing(
     _: usize,
     _: *mut u8,
     _: usize,
-    address: &mut u64,
+    results: &mut [u64; RESULTS],
     _: usize,
     _: u32,
 ) -> u32 {
-    *address = 0;
+    *results = [0; RESULTS];
     0
 }
 
 /// As `sme_move::numbers::execute`, with nothing behind it. The compiler is
 /// not to know what is called, or it would leave the arguments out.
 #[inline(never)]
-pub fn execute(settings: Settings, word: u32, buffers: Buffers<'_>) -> (u32, u64) {
-    let mut address = u64::MAX;
+pub fn execute(settings: Settings, word: u32, buffers: Buffers<'_>) -> Answered {
+    let mut results = [u64::MAX; RESULTS];
     let function: Function = black_box(nothing);
     let given = [
         settings.vector_bytes,
@@ -75,9 +79,10 @@ pub fn execute(settings: Settings, word: u32, buffers: Buffers<'_>) -> (u32, u64
         buffers.za.len(),
         buffers.memory.as_mut_ptr(),
         buffers.memory.len(),
-        &mut address,
-        1,
+        &mut results,
+        RESULTS,
         word,
     );
-    (answer, address)
+    let [address, element] = results;
+    (answer, address, element)
 }

@@ -259,17 +259,34 @@ fn expectations(cases: &[(&str, &str)]) {
 #[test]
 fn expected_answers_are_checked() {
     expectations(&[
-        ("answer", "'expect answer' takes a number, and with 7 also"),
-        ("answer 7 10 20", "'expect answer' takes a number, and with"),
+        (
+            "answer",
+            "'expect answer' takes a number, and with 7 also an address, and after it the number of an element",
+        ),
+        ("answer 7 10 2 3", "'expect answer' takes a number, and with"),
         ("answer 1", "'1' is no answer that a word of a script gets"),
         ("answer 8", "'8' is no answer"),
         ("answer 07", "'07' is no answer"),
-        ("answer 6 10", "only answer 7 has an address, and 6 none"),
+        (
+            "answer 6 10",
+            "only answer 7 has an address and an element, and 6 neither",
+        ),
+        ("answer 0 10 2", "only answer 7 has an address and an"),
         ("answer 7 1G", "'1G' has 'G' in it"),
+        ("answer 7 1G 2", "'1G' has 'G' in it"),
+        (
+            "answer 7 10 256",
+            "'256' is no number of a slice's element: 0 to 255, in decimal",
+        ),
+        ("answer 7 10 F", "'F' is no number of a slice's element"),
+        ("answer 7 10 03", "'03' is no number of a slice's element"),
+        ("answer 7 10 -1", "'-1' is no number of a slice's element"),
         ("answer 0", ""),
         ("answer 2", ""),
         ("answer 6", ""),
         ("answer 7", ""),
+        ("answer 7 10", ""),
+        ("answer 7 10 255", ""),
     ]);
 }
 
@@ -367,9 +384,30 @@ fn a_word_knows_whether_its_answer_is_expected() {
     let expected = [(0, false), (1, true), (2, false), (3, true)];
     assert_eq!(words.collect::<Vec<_>>(), expected);
     let last = script.steps.last().map(|step| &step.action);
-    let outside = Refusal::OutsideMemory { address: 0x1F };
-    let answer = Expectation::Answer(Answer::Exactly(Err(outside)));
+    let address = Some(0x1F);
+    let answer = Expectation::Answer(Answer::OutsideMemory { address });
     assert_eq!(last, Some(&Action::Expect(answer)));
+}
+
+/// What is not told of answer 7 may be anything; other answers are no answer 7.
+#[test]
+fn as_much_of_answer_7_is_expected_as_is_told() {
+    let outside = |address, element| Err(Refusal::OutsideMemory { address, element });
+    for (values, is) in [
+        ("7", [true, true, true, false]),
+        ("7 1f", [true, true, false, false]),
+        ("7 1f 3", [true, false, false, false]),
+        ("0", [false, false, false, true]),
+    ] {
+        let text = format!("vector-bytes 16\nword 00000000\nexpect answer {values}\n");
+        let script = parse(&text).expect("a good script");
+        let last = script.steps.last().map(|step| &step.action);
+        let Some(Action::Expect(Expectation::Answer(answer))) = last else {
+            panic!("{last:?}");
+        };
+        let found = [outside(0x1F, 3), outside(0x1F, 4), outside(0x20, 3), Ok(())];
+        assert_eq!(found.map(|found| answer.is(found)), is, "{values}");
+    }
 }
 
 #[test]

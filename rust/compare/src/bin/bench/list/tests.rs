@@ -6,7 +6,7 @@ use crate::machine::{Machine, ADDRESS};
 use crate::row::{Goal, Part};
 use crate::task::Strided;
 use crate::timing::Caller;
-use compare::case::archive_settings;
+use compare::case::{archive_settings, Answered};
 use compare::names::{self, FAULT};
 use sme_move::{decode_fields, Fields, Kind, Refusal, Settings};
 use std::collections::HashSet;
@@ -33,8 +33,8 @@ fn same(one: &Machine, other: &Machine) -> bool {
     one.z[..] == other.z[..] && one.za[..] == other.za[..] && one.memory[..] == other.memory[..]
 }
 
-/// The answer and address that the archive gives a task.
-fn answered(task: &Task) -> (u32, u64) {
+/// The answer that the archive gives a task, with its address and element.
+fn answered(task: &Task) -> Answered {
     let mut machine = task.machine();
     let settings = archive_settings(&machine.settings);
     task.callee.function()(settings, task.word, machine.lend())
@@ -87,7 +87,7 @@ fn an_empty_call_changes_nothing() {
     let [mut called, fresh] = [task.machine(), task.machine()];
     contestants::archive(&task, &mut called, &mut Once);
     assert!(same(&called, &fresh));
-    assert_eq!(answered(&task), (0, 0));
+    assert_eq!(answered(&task), (0, 0, 0));
 }
 
 /// The numbers of the word, its kind and its direction.
@@ -356,10 +356,12 @@ fn cliffs_without_an_active_element_are_there() {
 fn bytes_outside_are_where_names_say() {
     let outside = |task: &Task| task.answer == FAULT.number();
     for task in all_tasks().into_iter().filter(outside) {
-        let from_first = answered(&task).1 - ADDRESS;
+        let (_, address, element) = answered(&task);
         let middle = task.name.ends_with("byte in the middle outside");
-        let expected = if middle { task.vector_bytes / 2 } else { 0 };
-        assert_eq!(from_first, expected as u64, "{}", task.name);
+        let byte = if middle { task.vector_bytes / 2 } else { 0 };
+        assert_eq!(address - ADDRESS, byte as u64, "{}", task.name);
+        let outside = byte / task.element_bytes;
+        assert_eq!(element, outside as u64, "{}", task.name);
     }
 }
 
