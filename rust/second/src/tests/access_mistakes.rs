@@ -12,8 +12,9 @@ const STORE_4: u32 = 0xE0A2_0020;
 const LOAD_8: u32 = 0xE0C2_0020;
 const STORE_8: u32 = 0xE0E2_0020;
 
-/// Slice 0, base X1, offset register X2 at 0, those bits of P0.
-fn machine(base: u64, bits: &[usize]) -> Machine {
+/// Slice 0, base X1, offset register X2 at 0, those bits of P0; memory has 64
+/// bytes from address 0 on.
+pub fn machine(base: u64, bits: &[usize]) -> Machine {
     let mut machine = Machine::new(16);
     machine.set_w(12, 0);
     machine.set_predicate(0, bits.iter().copied());

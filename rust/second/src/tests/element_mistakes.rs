@@ -2,6 +2,7 @@
 //! is right by request 6, and which element the mistake has: that and nothing
 //! more.
 
+use super::access_mistakes::machine;
 use super::long_states::{state, words};
 use super::machine::{plain, Machine, DONE};
 use super::slices::VERTICAL;
@@ -25,16 +26,6 @@ const STORE_2: u32 = 0xE062_0020;
 /// Of tile 3.
 const LOAD_8: u32 = 0xE0C2_0026;
 const STORE_8: u32 = 0xE0E2_0026;
-
-/// Slice 0, base X1, offset register X2 at 0, those bits of P0; memory has 64
-/// bytes from address 0 on.
-fn machine(base: u64, bits: &[usize]) -> Machine {
-    let mut machine = Machine::new(16);
-    machine.set_w(12, 0);
-    machine.set_predicate(0, bits.iter().copied());
-    (machine.x[1], machine.x[2]) = (base, 0);
-    machine
-}
 
 /// Both words fault there for element `right`; with the mistake it is another.
 fn told(machine: &Machine, words: [u32; 2], address: u64, right: u64, wrong: (Mistake, u64)) {
