@@ -3,7 +3,7 @@
 -- Assumes nothing.
 use Prim.Native.Nat.{ℕ}
 use mathlib.Core.List.{[], _∷_}
-use Rattle.settings.specs.Answer.{Answer, answerWith, valueAt, done, badSettings, badLengths, undecodable, streamingOff, zaOff, stackMisaligned, outsideMemory}
+use Rattle.settings.specs.Answer.{Answer, answerWith, nthValue, done, badSettings, badLengths, undecodable, streamingOff, zaOff, stackMisaligned, outsideMemory}
 use Rattle.semantics.specs.declared.answer.Fault.{Fault}
 use Rattle.semantics.specs.declared.answer.Refusal.{Refusal}
 use Rattle.semantics.specs.declared.answer.Refusal.the-variants.{BadSettings, BadLengths, Undecodable, StreamingOff, ZaOff, StackMisaligned, OutsideMemory}
@@ -25,7 +25,7 @@ executedAnswer (Refused r) = refusalAnswer r
 
 -- what an answer carries, zeros where it carries nothing
 abbrev pub carried : Answer → Fault
-carried a = record { address = valueAt a 0; element = valueAt a 1 }
+carried a = record { address = nthValue a 0; element = nthValue a 1 }
 
 abbrev pub refusalNumber : Refusal → ℕ
 refusalNumber r = refusalAnswer r .number

@@ -5,7 +5,7 @@ use mathlib.Core.Path.{_≡_}
 use mathlib.Core.Bool.{Bool, true, false, cond}
 use mathlib.Core.List.{List, [], _∷_, _++_, map}
 use lib.ListN.{replicate}
-use Rattle.settings.specs.Answer.{answerWith, valueAt, done, badSettings, badLengths, undecodable, streamingOff, zaOff, stackMisaligned, outsideMemory, outOfRange, noFreeTile, badHeld, checkedNumber}
+use Rattle.settings.specs.Answer.{answerWith, nthValue, done, badSettings, badLengths, undecodable, streamingOff, zaOff, stackMisaligned, outsideMemory, outOfRange, noFreeTile, badHeld, checkedNumber}
 use Rattle.settings.specs.Settings.{minVectorBytes, maxVectorBytes, maxLevel, isVectorLength, validVectors, validSettings, checkOf, checkNumber, settingsOf, makeOf, withStreaming, withZa, withMemoryAddress, withStackCheck, strideOf, lengthsOf, lengthNumbers, Measures}
 use Rattle.settings.specs.Lent.{settingsIn}
 use Rattle.settings.specs.declared.Settings.{Settings}
@@ -99,5 +99,5 @@ pub record SettingsExamplesHold : Type 0 where
   -- the answers' numbers, and what an answer carries
   pub answers : done ∷ badSettings ∷ badLengths ∷ undecodable ∷ streamingOff ∷ zaOff ∷ stackMisaligned ∷ outsideMemory ∷ outOfRange ∷ noFreeTile ∷ badHeld ∷ [] ≡ 0 ∷ 1 ∷ 2 ∷ 3 ∷ 4 ∷ 5 ∷ 6 ∷ 7 ∷ 8 ∷ 13 ∷ 16 ∷ []
   pub numbers : map checkedNumber (Valid ∷ BadSettings ∷ []) ≡ 0 ∷ 1 ∷ []
-  pub values : map (valueAt (answerWith 7 (5 ∷ 6 ∷ []))) (0 ∷ 1 ∷ 2 ∷ []) ≡ 5 ∷ 6 ∷ 0 ∷ []
-  pub none : valueAt (answerWith 0 []) 0 ≡ 0
+  pub values : map (nthValue (answerWith 7 (5 ∷ 6 ∷ []))) (0 ∷ 1 ∷ 2 ∷ []) ≡ 5 ∷ 6 ∷ 0 ∷ []
+  pub none : nthValue (answerWith 0 []) 0 ≡ 0

@@ -11,7 +11,7 @@ use lib.ListN.{length, getD}
 use borrow.Author.Tests.{eq-eqb, ne-eqb}
 use Rattle.general.specs.Determined.{IsOneOf}
 use Rattle.general.proofs.DeterminedLaws.{equal-determines, one-of-test, other-number}
-use Rattle.settings.specs.Answer.{Answer, answerWith, valueAt, done, badSettings}
+use Rattle.settings.specs.Answer.{Answer, answerWith, nthValue, done, badSettings}
 use Rattle.settings.specs.Settings.{validVectors, validSettings, lengthsOf, lengthNumbers}
 use Rattle.settings.specs.Lent.{settingsIn}
 use Rattle.settings.specs.declared.Settings.{Settings}
@@ -65,7 +65,7 @@ exports-determine s w t rs = record {
       (λ o p i. (number p i, (p .results ∙ ap (λ (e : Executed). filled (resultNumbers e) rs) (p .executes .answer)) i, p .executes .state i));
   numbers = λ r rs′ t′ p. subst (IsOneOf (0 ∷ 1 ∷ 2 ∷ 3 ∷ 4 ∷ 5 ∷ 6 ∷ 7 ∷ [])) (sym (p .number)) (executed-numbers (p .answer));
   table = λ r rs′ t′ p.
-      (p .number ∙ ap (λ (a : Answer). a .number) (p .executes .numbers), p .results ∙ ap (λ (a : Answer). filled (valueAt a 0 ∷ valueAt a 1 ∷ []) rs) (p .executes .numbers));
+      (p .number ∙ ap (λ (a : Answer). a .number) (p .executes .numbers), p .results ∙ ap (λ (a : Answer). filled (nthValue a 0 ∷ nthValue a 1 ∷ []) rs) (p .executes .numbers));
   refused = λ r rs′ t′ p n. executing-determines s w t .refused (p .answer) t′ (p .executes) (λ e. n (p .number ∙ e));
   outside = λ r rs′ t′ p e.
       let given = p .executes .answer in
@@ -113,7 +113,7 @@ decode-exports-determine w level f = record {
 
 encode-exports-determine : (f : List ℕ) → EncodeExportsDetermine f
 encode-exports-determine f = record {
-  determined = equal-determines (λ (o : ℕ × ℕ). EncodeExports f (o .0) (o .1)) (encodeAnswer f .number, valueAt (encodeAnswer f) 0) (λ o p i. (p .number i, p .word i));
+  determined = equal-determines (λ (o : ℕ × ℕ). EncodeExports f (o .0) (o .1)) (encodeAnswer f .number, nthValue (encodeAnswer f) 0) (λ o p i. (p .number i, p .word i));
   numbers = λ r w p. subst (IsOneOf (0 ∷ 8 ∷ [])) (sym (p .number)) (encode-answered f .number);
   table = λ r w p. (p .number, p .word);
   refused = λ r w p n. p .word ∙ ap (λ (vs : List ℕ). getD vs 0 0) (encode-answered f .values (λ e. n (p .number ∙ e)));

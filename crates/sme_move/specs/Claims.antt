@@ -6,7 +6,7 @@ use mathlib.Core.Path.{_≡_}
 use mathlib.Core.List.{List, [], _∷_}
 use lib.ListN.{length, getD}
 use Rattle.general.specs.Determined.{Determined, Met, IsOneOf}
-use Rattle.settings.specs.Answer.{valueAt}
+use Rattle.settings.specs.Answer.{nthValue}
 use Rattle.settings.specs.Settings.{checkNumber}
 use Rattle.settings.specs.Lent.{settingsIn}
 use Rattle.settings.specs.Claims.{Fitting}
@@ -25,7 +25,7 @@ pub record ExportsDetermine (s : Settings) (w : ℕ) (t : State) (rs : List ℕ)
   pub met : Met (λ (o : ℕ × List ℕ × State). Exports s w t rs (o .0) (o .1) (o .2))
   pub determined : Determined (λ (o : ℕ × List ℕ × State). Exports s w t rs (o .0) (o .1) (o .2))
   pub numbers : (r : ℕ) (rs′ : List ℕ) (t′ : State) → Exports s w t rs r rs′ t′ → IsOneOf (0 ∷ 1 ∷ 2 ∷ 3 ∷ 4 ∷ 5 ∷ 6 ∷ 7 ∷ []) r
-  pub table : (r : ℕ) (rs′ : List ℕ) (t′ : State) → Exports s w t rs r rs′ t′ → (r ≡ answerInNumbers s w (publicOf t) .number) × (rs′ ≡ filled (valueAt (answerInNumbers s w (publicOf t)) 0 ∷ valueAt (answerInNumbers s w (publicOf t)) 1 ∷ []) rs)
+  pub table : (r : ℕ) (rs′ : List ℕ) (t′ : State) → Exports s w t rs r rs′ t′ → (r ≡ answerInNumbers s w (publicOf t) .number) × (rs′ ≡ filled (nthValue (answerInNumbers s w (publicOf t)) 0 ∷ nthValue (answerInNumbers s w (publicOf t)) 1 ∷ []) rs)
   pub refused : (r : ℕ) (rs′ : List ℕ) (t′ : State) → Exports s w t rs r rs′ t′ → (r ≡ 0 → ⊥) → t′ ≡ t
   pub outside : (r : ℕ) (rs′ : List ℕ) (t′ : State) → Exports s w t rs r rs′ t′ → r ≡ 7 →
       (o : FirstOutside s w t) × (rs′ ≡ filled (addressIn (t .x) (o .first .access) (o .first .element) (o .first .byte) ∷ o .first .element ∷ []) rs)
@@ -49,7 +49,7 @@ pub record DecodeExportsDetermine (w level : ℕ) (f : List ℕ) : Type 0 where
 pub record EncodeExportsDetermine (f : List ℕ) : Type 0 where
   pub determined : Determined (λ (o : ℕ × ℕ). EncodeExports f (o .0) (o .1))
   pub numbers : (r w : ℕ) → EncodeExports f r w → IsOneOf (0 ∷ 8 ∷ []) r
-  pub table : (r w : ℕ) → EncodeExports f r w → (r ≡ encodeAnswer f .number) × (w ≡ valueAt (encodeAnswer f) 0)
+  pub table : (r w : ℕ) → EncodeExports f r w → (r ≡ encodeAnswer f .number) × (w ≡ nthValue (encodeAnswer f) 0)
   pub refused : (r w : ℕ) → EncodeExports f r w → (r ≡ 0 → ⊥) → w ≡ 0
 
 -- lengths: with 0, which is given exactly if the two vector lengths fit, what the largest fixes, and another number leaves them as they were

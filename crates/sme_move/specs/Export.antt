@@ -7,7 +7,7 @@ use mathlib.Core.Path.{_≡_}
 use mathlib.Core.Bool.{cond}
 use mathlib.Core.List.{List, [], _∷_}
 use lib.Dec.{eqb}
-use Rattle.settings.specs.Answer.{Answer, valueAt, done, badSettings}
+use Rattle.settings.specs.Answer.{Answer, nthValue, done, badSettings}
 use Rattle.settings.specs.Settings.{validVectors, lengthsOf, lengthNumbers}
 use Rattle.settings.specs.declared.Settings.{Settings}
 use Rattle.encoding.specs.Codec.{decodeAnswer, encodeAnswer}
@@ -48,7 +48,7 @@ pub record DecodeExports (w level : ℕ) (f : List ℕ) (r : ℕ) (f′ : List �
 -- the word is written with every answer, and is 0 with a refusal
 pub record EncodeExports (f : List ℕ) (r w : ℕ) : Type 0 where
   pub number : r ≡ encodeAnswer f .number
-  pub word : w ≡ valueAt (encodeAnswer f) 0
+  pub word : w ≡ nthValue (encodeAnswer f) 0
 
 pub record LengthExports (s : Settings) (l : List ℕ) (r : ℕ) (l′ : List ℕ) : Type 0 where
   pub number : r ≡ cond (validVectors s) done badSettings
