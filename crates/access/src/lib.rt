@@ -1,4 +1,6 @@
 // Loads and stores of a tile slice.
+#![tactic(auto)]
+
 mod address;
 mod load_store;
 mod predicate;

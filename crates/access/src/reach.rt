@@ -17,7 +17,7 @@ use settings::Settings;
 use tiles::{ElementSize, Span, TileSlice, elements_in, predicate_start, slice_span};
 
 // Where a load or store goes, or why it is refused.
-#[derive(Drop)]
+#[derive(Clone, Copy)]
 pub enum Reach {
     // The whole vector's bytes are in memory, from this index on.
     Whole(usize),
@@ -27,7 +27,7 @@ pub enum Reach {
 }
 
 // What a load or store goes by: the elements of its slice, where its governing predicate starts in P, and its reach.
-#[derive(Drop)]
+#[derive(Clone, Copy)]
 pub struct Prepared {
     pub slice: Span,
     pub predicate: usize,

@@ -8,7 +8,7 @@ use tiles::{ElementSize, Span};
 
 // Which bytes of a vector lie in memory: the first `head`, in memory from index `at` on, and from byte `skip` on `tail` more,
 // which are memory's first. (The second part is one that begins before memory does, or goes past address 2^64 to 0.)
-#[derive(Drop)]
+#[derive(Clone, Copy)]
 pub struct Window {
     pub at: usize,
     pub head: usize,

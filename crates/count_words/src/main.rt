@@ -1,5 +1,7 @@
 // Counts the words that decode at each level, by decoding every word there is. For each level it
 // writes a line: the level, a space, the count.
+#![tactic(auto)]
+
 ghost use Rattle.std.specs.Prelude.{◌≡◌, ◌*◌, ◌^◌};
 ghost use Rattle.text.specs.Line.{Puts};
 ghost use Rattle.count_words.specs.Count.{count_of, decode_count, line_of};

@@ -1,6 +1,8 @@
 // Answers lines of a word and a level, in hexadecimal digits, with what the word decodes to: the
 // answer's number and, for an operation, its eleven numbers and the word that they encode to. A
 // line that is not of the form is refused, and ends the program.
+#![tactic(auto)]
+
 ghost use Rattle.std.specs.Prelude.{◌≡◌, ◌≤◌, length};
 ghost use Rattle.text.specs.Line.{Puts};
 ghost use Rattle.decode_words.specs.Line.{question_of, numbers_text, operation_text, rest_text, line_of};
@@ -10,7 +12,7 @@ use libc::{STDIN_FILENO, STDOUT_FILENO};
 use text::Parsed;
 
 // What a line asks.
-#[derive(Drop)]
+#[derive(Clone, Copy)]
 enum Question {
     Decode { word: u32, level: u32 },
     BadLine,

@@ -12,7 +12,7 @@ use tiles::ElementSize;
 
 // The kind of a word, with its element size or its number of registers. `Take` is the move and zero from a tile. Whether an
 // array move zeroes, and whether an access stores, is a bit of the word: `zeroes_in`, `stores_in`.
-#[derive(Drop)]
+#[derive(Clone, Copy)]
 pub enum Class {
     ToTile(ElementSize),
     FromTile(ElementSize),
@@ -22,7 +22,7 @@ pub enum Class {
 }
 
 // What classifying a word gives.
-#[derive(Drop)]
+#[derive(Clone, Copy)]
 pub enum Classified {
     Done(Class),
     Undecodable,

@@ -1,5 +1,7 @@
 // Answers lines of eleven numbers, in pairs of hexadecimal digits, with the answer's number and the
 // word that they encode to. A line that is not of the form is refused, and ends the program.
+#![tactic(auto)]
+
 ghost use Rattle.std.specs.Prelude.{◌≡◌};
 ghost use Rattle.text.specs.Line.{Puts};
 ghost use Rattle.encode_fields.specs.Line.{question_of, numbers_asked, question_text, encoded_text, line_of};
@@ -10,7 +12,7 @@ use text::Parsed;
 
 // What a line asks: the 22 digits as the numbers that the first eight, the next eight and the last
 // six are.
-#[derive(Drop)]
+#[derive(Clone, Copy)]
 enum Question {
     Encode { first: u32, second: u32, third: u32 },
     BadLine,

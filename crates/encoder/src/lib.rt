@@ -1,5 +1,7 @@
 // Encoding: the word that stands for an operation (document 01 §4), or a refusal where a field is
 // outside its range.
+#![tactic(auto)]
+
 ghost use Rattle.std.specs.Prelude.{◌≡◌, true, ◌+◌, ◌*◌, ◌<◌};
 ghost use Rattle.encoding.specs.Codec.{Encodes};
 ghost use Rattle.tiles.specs.Element.{bytes_of};

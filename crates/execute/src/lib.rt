@@ -1,5 +1,7 @@
 // One call: the checks in order, then one operation (document 01 §5 and §6). The crate listing checks once and performs many
 // words, so that both steps are public.
+#![tactic(auto)]
+
 ghost use Rattle.semantics.specs.State.{state_of};
 ghost use Rattle.semantics.specs.Promise.{Executes};
 

@@ -1,6 +1,8 @@
 // The flat form: an operation as eleven numbers, for hosts: kind, element bytes, direction, tile,
 // offset, index register, predicate, first vector register, base register, offset register, number of
 // vector registers. A number that a kind does not have is 0. (specs/Flat.antt of the crate encoding lists them by kind.)
+#![tactic(auto)]
+
 ghost use Rattle.std.specs.Prelude.{◌≡◌};
 ghost use Rattle.encoding.specs.Flat.{slice_flat, array_flat, flat_of, slice_of, tile_to_vector_of, array_to_vectors_of, slice_access_of, operation_of};
 ghost use Rattle.encoding.specs.Codec.{Unflattens, EncodesFlat};

@@ -1,1 +1,3 @@
 // Theorems about execution: no code that a host calls.
+#![tactic(auto)]
+

@@ -1,4 +1,6 @@
 // Held tiles as hosts lend them: an array of numbers, two for each tile, the bytes of its elements and its number.
+#![tactic(auto)]
+
 ghost use Rattle.std.specs.Prelude.{◌≡◌, ◌*◌, ◌<◌, ◌≤◌, length};
 ghost use Rattle.planner.specs.Tile.{tile_of};
 ghost use Rattle.lent_tiles.specs.Lent.{tile_at_place, held_in, take_in, held_out, FitsPlaces, Settles, TakesTile, GivesUpTile};

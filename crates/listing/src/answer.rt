@@ -5,7 +5,7 @@ ghost use Rattle.listing.specs.Answer.{listed_number, listed_fault};
 use semantics::{Executed, Fault};
 
 // How a listing ended.
-#[derive(Drop)]
+#[derive(Clone, Copy)]
 pub enum Listed {
     // Its length is not a multiple of 4: no word was run.
     BadListing,
@@ -15,7 +15,7 @@ pub enum Listed {
 }
 
 // How many words were done, and the answer.
-#[derive(Drop)]
+#[derive(Clone, Copy)]
 pub struct ListingRun {
     pub words: u64,
     pub answer: Listed,

@@ -1,5 +1,7 @@
 // A listing, run in one call (request 5): settings and lengths are checked once, and then its words are performed one after
 // another, up to the first that is not done.
+#![tactic(auto)]
+
 ghost use Rattle.std.specs.Prelude.{◌≡◌, ◌*◌, ◌/◌, ◌≤◌, min, length};
 ghost use Rattle.semantics.specs.State.{state_of};
 ghost use Rattle.semantics.specs.Run.{run_of};

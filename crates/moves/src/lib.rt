@@ -1,6 +1,8 @@
 // Elements moved from one place to another, wherever they lie: rows and columns of tiles, registers, vectors of the ZA array
 // and stretches of memory are all a Span of the crate tiles. Each function is a `scatter` of the crate general; ranges are
 // required, since only crates of this project call them.
+#![tactic(auto)]
+
 ghost use Rattle.std.specs.Prelude.{◌≡◌, true, false, ◌*◌, ◌≤◌, length};
 ghost use Rattle.general.specs.Scatter.{scatter, all, zeros};
 ghost use Rattle.tiles.specs.Element.{bytes_of};

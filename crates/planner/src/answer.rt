@@ -4,7 +4,7 @@ ghost use Rattle.planner.specs.Held.{answer_number};
 
 use crate::held::Held;
 
-#[derive(Drop)]
+#[derive(Clone, Copy)]
 pub enum TileAnswer {
     Done,
     BadSize,
@@ -13,7 +13,7 @@ pub enum TileAnswer {
 }
 
 // A tile that was taken, and the held tiles with it; with a refusal tile 0, and the held tiles as they were.
-#[derive(Drop)]
+#[derive(Clone, Copy)]
 pub struct Taken {
     pub answer: TileAnswer,
     pub number: u64,
@@ -21,7 +21,7 @@ pub struct Taken {
 }
 
 // The held tiles without the one that was given up, or with a refusal as they were.
-#[derive(Drop)]
+#[derive(Clone, Copy)]
 pub struct GivenUp {
     pub answer: TileAnswer,
     pub held: Held,

@@ -7,7 +7,7 @@ ghost use Rattle.planner.specs.Steps.{TilesFrom};
 use crate::tile::{Tile, is_shared, is_tile};
 
 // The first `count` of sixteen tiles: no more can be held, since no more can share no byte.
-#[derive(Drop)]
+#[derive(Clone, Copy)]
 pub struct Held {
     pub tiles: [Tile; 16],
     pub count: usize,

@@ -1,4 +1,6 @@
 // Which tile of ZA a kernel that holds some may take next, and giving one up (request 9).
+#![tactic(auto)]
+
 mod answer;
 mod free;
 mod giving_up;

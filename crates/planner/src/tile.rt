@@ -6,7 +6,7 @@ use tiles::ElementSize;
 
 // A tile of ZA: the bytes of its elements and its number among the tiles of that size. Any numbers can be
 // in a record, so that a tile that does not exist can be named too.
-#[derive(Drop)]
+#[derive(Clone, Copy)]
 pub struct Tile {
     pub bytes: u64,
     pub number: u64,

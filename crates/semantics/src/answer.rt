@@ -4,14 +4,14 @@ ghost use Rattle.semantics.specs.Answer.{refusal_number, refusal_fault, executed
 
 // Where a load or store leaves memory: the address of the first byte that is not in memory, of the lowest-numbered active
 // element that has one, and the number of that element (request 6).
-#[derive(Drop)]
+#[derive(Clone, Copy)]
 pub struct Fault {
     pub address: u64,
     pub element: u64,
 }
 
 // Why nothing was done.
-#[derive(Drop)]
+#[derive(Clone, Copy)]
 pub enum Refusal {
     BadSettings,
     BadLengths,
@@ -22,7 +22,7 @@ pub enum Refusal {
     OutsideMemory(Fault),
 }
 
-#[derive(Drop)]
+#[derive(Clone, Copy)]
 pub enum Executed {
     Done,
     Refused(Refusal),

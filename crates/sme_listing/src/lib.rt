@@ -1,5 +1,7 @@
 // What hosts link to run listings, over numbers and slices as in sme_move. It is a crate beside sme_move, and becomes an object of its own in the archive: so
 // execution is compiled into each of the two, and neither a single word nor a listing pays for the other (docs/DECISIONS.md).
+#![tactic(auto)]
+
 ghost use Rattle.settings.specs.Lent.{settings_in};
 ghost use Rattle.semantics.specs.State.{state_of};
 ghost use Rattle.sme_listing.specs.Export.{ListingExports};

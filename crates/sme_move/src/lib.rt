@@ -1,5 +1,7 @@
 // What hosts link, but for listings, which are in sme_listing: functions over numbers and slices, which only call the crates below. Settings
 // and results are arrays with a count, so that a later one changes no function here (docs/DECISIONS.md).
+#![tactic(auto)]
+
 ghost use Rattle.std.specs.Prelude.{◌≡◌};
 ghost use Rattle.settings.specs.Settings.{check_number};
 ghost use Rattle.settings.specs.Lent.{settings_in};

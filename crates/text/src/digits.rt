@@ -5,7 +5,7 @@ ghost use Rattle.text.specs.Digits.{digit_of, value_of, hex_digits, parse_of};
 const DIGITS: [u8; 16] = *b"0123456789ABCDEF";
 
 // What reading digits finds.
-#[derive(Drop)]
+#[derive(Clone, Copy)]
 pub enum Parsed {
     Number(u32),
     Malformed,

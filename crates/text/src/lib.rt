@@ -1,5 +1,7 @@
 // What the programs share: digits in a line that was read, and a line that is put together to be
 // written.
+#![tactic(auto)]
+
 mod digits;
 mod line;
 

@@ -2,7 +2,7 @@
 ghost use Rattle.std.specs.Prelude.{◌≡◌, ◌<◌};
 ghost use Rattle.tiles.specs.Direction.{direction_number, direction_of};
 
-#[derive(Drop)]
+#[derive(Clone, Copy)]
 pub enum Direction {
     Horizontal,
     Vertical,

@@ -3,7 +3,7 @@ ghost use Rattle.std.specs.Prelude.{◌≡◌, ◌/◌, ◌<◌};
 ghost use Rattle.tiles.specs.Element.{bytes_of, size_of, doublings_of};
 
 // An element's width, named as Arm names its classes of encodings.
-#[derive(Drop)]
+#[derive(Clone, Copy)]
 pub enum ElementSize {
     Bits8,
     Bits16,

@@ -8,7 +8,7 @@ use crate::element::ElementSize;
 
 // A slice of a tile as a word names it. Its number is the low 32 bits of the index register and the offset, modulo how many
 // slices the tile has.
-#[derive(Drop)]
+#[derive(Clone, Copy)]
 pub struct TileSlice {
     pub size: ElementSize,
     pub direction: Direction,

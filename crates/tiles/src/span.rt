@@ -11,7 +11,7 @@ use crate::slice::{TileSlice, selected};
 use settings::Settings;
 
 // So many elements; element e starts at index start + e * step. Their size is told beside it.
-#[derive(Drop)]
+#[derive(Clone, Copy)]
 pub struct Span {
     pub start: usize,
     pub step: usize,
