@@ -7,16 +7,15 @@ use native.Mathlib.Nat.{mod-lt}
 use lib.Bits.{bit_and, and_mask}
 use lib.Pow.{pow_pos}
 use Rattle.tiles.specs.Slice.{PowerOfTwo}
-use Rattle.tiles.proofs.slice.selected.Statement.{statement}
-use Rattle.tiles.proofs.slice.selected.Tie as tie
+use Rattle.tiles.proofs.slice.selected.Goals as goal
 
 below : (w n : ℕ) → PowerOfTwo n → (bit_and w (n - 1) ≡ w % n) × (w % n < n)
 below w n p = rw p.equal (and_mask w p.exponent, mod-lt w (pow_pos p.exponent))
 
-returns : tie.Need-returns
+pub overflow_sub-result : goal.overflow_sub-result
+overflow_sub-result c = rw c.requires.0.equal (pow_pos c.requires.0.exponent)
+
+pub returns : goal.returns
 returns c =
     let b = below (c.args.x % 4294967296 + c.args.offset) c.args.n c.requires.0 in
     (b.0, rw b.0 b.1)
-
-pub selected-spec : {M : Type 1} → statement M
-selected-spec = tie.close (tie.spec (λ c. search rules) (λ c. rw c.requires.0.equal (pow_pos c.requires.0.exponent)) returns)
