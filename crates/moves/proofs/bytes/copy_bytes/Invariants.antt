@@ -1,0 +1,18 @@
+-- `moves::bytes::copy_bytes` meets its contract: after i turns the first i bytes are copied.
+-- Assumes nothing.
+use borrow.Author.Rules.{rules}
+use mathlib.Core.Path.{refl}
+use Prim.Native.Nat.{ℕ, ◌+◌, ◌-◌, ◌≤◌}
+use native.Mathlib.Omega.{arith}
+use lib.ListN.{get_or, length-set}
+use Rattle.general.specs.Scatter.{all, onwards}
+use Rattle.general.proofs.ScatterLaws.{scatter_none, scatter_more, scatter_end}
+use Rattle.moves.proofs.BlockLaws.{WrittenTo}
+use Rattle.moves.proofs.bytes.copy_bytes.Given as goal
+
+abbrev pub invariant-loop-i : goal.invariant-loop-i
+invariant-loop-i l =
+    (l.i ≤ l.n) × WrittenTo (onwards at-dst) all (λ (k : ℕ). get_or l.src (at-src + k) 0) l.initial.dst l.i l.dst
+
+abbrev pub decreases-loop-i : goal.decreases-loop-i
+decreases-loop-i l = l.n - l.i

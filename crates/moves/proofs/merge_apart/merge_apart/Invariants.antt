@@ -1,0 +1,24 @@
+-- `moves::merge_apart::merge_apart` meets its contract: after g turns the elements of g groups are written or kept, and those of a predicate
+-- byte that is zero passed over.
+-- Assumes nothing.
+use borrow.Author.Rules.{rules}
+use mathlib.Core.Path.{◌≡◌, sym, ◌∙◌}
+use mathlib.Core.Bool.{cond, ◌||◌}
+use mathlib.Core.Logic.{⊎_elim}
+use Prim.Native.Nat.{ℕ, ◌*◌, ◌-◌, ◌<◌, ◌≤◌}
+use native.Mathlib.Nat.{div-add-mod'}
+use native.Mathlib.Omega.{arith}
+use Rattle.tiles.specs.Predicate.{active}
+use Rattle.tiles.specs.Span.{span_at}
+use Rattle.moves.specs.Paired.{value_at}
+use Rattle.moves.proofs.BlockLaws.{WrittenTo, written_none, written_end}
+use Rattle.moves.proofs.SpanLaws.{reads}
+use Rattle.moves.proofs.GroupLaws.{group_small, groups_whole, groups_few, group_index, group_first, part_paired, group_merged, group_passed}
+use Rattle.moves.proofs.merge_apart.merge_apart.Given as goal
+
+abbrev pub invariant-loop-g : goal.invariant-loop-g
+invariant-loop-g l =
+    (l.g ≤ l.n) × (l.n * l.per ≡ l.to.count) × WrittenTo (span_at l.to l.m) (λ (k : ℕ). l.zeroing || active l.p 0 l.m k) (λ (k : ℕ). cond (active l.p 0 l.m k) (value_at l.src l.from l.m k) 0) l.initial.dst (l.g * (l.per * l.m)) l.dst
+
+abbrev pub decreases-loop-g : goal.decreases-loop-g
+decreases-loop-g l = l.n - l.g

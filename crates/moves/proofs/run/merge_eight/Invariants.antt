@@ -1,0 +1,21 @@
+-- `moves::run::merge_eight` meets its contract: after i turns the first i bytes are chosen; then all are written.
+-- Assumes nothing.
+use mathlib.Core.Bool.{cond}
+use borrow.Author.Rules.{rules}
+use mathlib.Core.Path.{◌≡◌, refl, ◌∙◌}
+use Prim.Native.Nat.{ℕ, ◌+◌, ◌-◌, ◌≤◌}
+use native.Mathlib.Omega.{arith}
+use lib.ListN.{length, get_or, length-set}
+use Rattle.general.specs.Scatter.{all}
+use Rattle.general.proofs.ScatterLaws.{scatter_none, scatter_more, scatter_end}
+use Rattle.moves.proofs.BlockLaws.{WrittenTo}
+use Rattle.moves.proofs.PartLaws.{each, scatter_by_part, scatter_picked}
+use Rattle.moves.specs.Mask.{masked}
+use Rattle.moves.proofs.run.merge_eight.Given as goal
+
+abbrev pub invariant-loop-i : goal.invariant-loop-i
+invariant-loop-i l =
+    (l.i ≤ 8) × (length l.initial.part ≡ 8) × WrittenTo each all (λ (k : ℕ). cond (masked l.b l.masks k) (get_or l.src (at-src + k) 0) (get_or l.dst (at-dst + k) 0)) l.initial.part l.i l.part
+
+abbrev pub decreases-loop-i : goal.decreases-loop-i
+decreases-loop-i l = 8 - l.i
