@@ -11,12 +11,12 @@ use Rattle.encoding.proofs.TableLaws.{is, isnt}
 use Rattle.encoding.proofs.CodecLaws.{undecodable_as}
 use Rattle.decoder.proofs.DecoderLaws.{access_classifies, size_of_bits}
 use borrow.Author.Rules.{rules}
-use Rattle.decoder.proofs.class.classify_access.Goals.{Joined-wide-eq1}
+use Rattle.decoder.proofs.class.classify_access.Goals.{then-wide-eq1+else-two-ne3, else-wide-eq1, Joined-wide-eq1}
 use Rattle.decoder.proofs.class.classify_access.Goals as goal
 
 -- the bit of the widest elements, and with it bits 23:22
 wide : (c : Joined-wide-eq1) → let w = c.args.word in (bits_at 24 1 w ≡ 0) ⊎ ((bits_at 24 1 w ≡ 1) × (bits_at 22 2 w ≡ 3))
-wide c = ⊎_elim (λ v. inr (omega arith)) (λ v. inl (omega arith)) c.if-wide-eq1.branch
+wide c = elim c.if-wide-eq1.branch [ then-wide-eq1+else-two-ne3 w ↦ inr (omega arith) | else-wide-eq1 w ↦ inl (omega arith) ]
 
 pub returns-then-level-lt1 : goal.returns-then-level-lt1
 unfolding table

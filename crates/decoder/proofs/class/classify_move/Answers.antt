@@ -13,18 +13,18 @@ use Rattle.encoding.proofs.TableLaws.{is, isnt}
 use Rattle.encoding.proofs.CodecLaws.{undecodable_as}
 use Rattle.decoder.proofs.DecoderLaws.{size_of_bits, six_bits}
 use borrow.Author.Rules.{rules}
-use Rattle.decoder.proofs.class.classify_move.Goals.{Joined-wide-eq1, After-size_in-size}
+use Rattle.decoder.proofs.class.classify_move.Goals.{then-wide-eq1+else-two-ne3, else-wide-eq1, Joined-wide-eq1, After-size_in-size}
 use Rattle.decoder.proofs.class.classify_move.Goals as goal
 
 -- the bit of the widest elements, and with it bits 23:22
 wide : (c : Joined-wide-eq1) → let w = c.args.word in (bits_at 16 1 w ≡ 0) ⊎ ((bits_at 16 1 w ≡ 1) × (bits_at 22 2 w ≡ 3))
-wide c = ⊎_elim (λ v. inr (omega arith)) (λ v. inl (omega arith)) c.if-wide-eq1.branch
+wide c = elim c.if-wide-eq1.branch [ then-wide-eq1+else-two-ne3 w ↦ inr (omega arith) | else-wide-eq1 w ↦ inl (omega arith) ]
 
 -- they are those of the size
 bits : (c : After-size_in-size) → let w = c.args.word in (bits_at 22 2 w ≡ size_bits c.size_in-size.result / 64) × (bits_at 16 1 w ≡ size_bits c.size_in-size.result % 2)
 bits c =
     let w = c.args.word in
-    size_of_bits (bits_at 22 2 w) (bits_at 16 1 w) _ _ (wide c) (mod-lt _ (omega arith)) c.size_in-size.ensures.0 c.size_in-size.ensures.1
+    size_of_bits (bits_at 22 2 w) (bits_at 16 1 w) _ _ (wide c.before) (mod-lt _ (omega arith)) c.size_in-size.ensures.0 c.size_in-size.ensures.1
 
 pub returns-then-level-lt1 : goal.returns-then-level-lt1
 unfolding table

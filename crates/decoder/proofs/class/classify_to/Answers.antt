@@ -11,7 +11,7 @@ use Rattle.decoder.proofs.class.classify_to.Goals as goal
 
 pub returns-then-word-ne0 : goal.returns-then-word-ne0
 unfolding table
-returns-then-word-ne0 c = undecodable_as 3 (is 4 1 1 ∷ is 17 5 0 ∷ is 24 8 0xC0 ∷ []) _ level refl (omega arith) h h
+returns-then-word-ne0 c level l h = undecodable_as 3 (is 4 1 1 ∷ is 17 5 0 ∷ is 24 8 0xC0 ∷ []) _ level refl (omega arith) h h
 
 pub returns : goal.returns
 returns c = to_tile_classifies c.args.size _ (omega arith)

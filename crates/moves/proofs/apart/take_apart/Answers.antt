@@ -55,4 +55,7 @@ loop-e-preserved c =
 pub returns : goal.returns
 returns c =
     let l = c.loop-e in
-    (written_end _ _ _ _ l.e _ _ l.invariant.1.1 l.invariant.0 c.loop-e-test.false, written_end _ _ _ _ l.e _ _ l.invariant.2.1 l.invariant.0 c.loop-e-test.false)
+    record {
+      dst_after = written_end _ _ _ _ l.e _ _ l.invariant.1.1 l.invariant.0 c.loop-e-test.false;
+      src_after = written_end _ _ _ _ l.e _ _ l.invariant.2.1 l.invariant.0 c.loop-e-test.false;
+    }

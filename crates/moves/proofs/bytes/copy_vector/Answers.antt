@@ -12,4 +12,4 @@ pub returns : goal.returns
 returns c =
     let a = c.args in
     c.copy_bytes-2.ensures
-    ∙ scatter_by_part _ _ (λ k. get_or a.src.now (a.at-src + k) 0) a.n _ _ _ (omega arith) (from_zero _ _ _ c.copy_bytes.ensures)
+    ∙ scatter_by_part _ _ (λ k. get_or a.src.now (a.at_src + k) 0) a.n _ _ _ (omega arith) (from_zero _ _ _ c.copy_bytes.ensures)

@@ -14,7 +14,7 @@ use Rattle.moves.proofs.element.merge_bytes.Given as goal
 
 abbrev pub invariant-loop-i : goal.invariant-loop-i
 invariant-loop-i l =
-    (l.i ≤ l.n) × (length l.initial.part ≡ 16) × WrittenTo each all (λ (k : ℕ). cond l.on (get_or l.src (at-src + k) 0) (cond l.zeroing 0 (get_or l.dst (at-dst + k) 0))) l.initial.part l.i l.part
+    (l.i ≤ l.n) × (length l.initial.part ≡ 16) × WrittenTo each all (λ (k : ℕ). cond l.on (get_or l.src (l.at_src + k) 0) (cond l.zeroing 0 (get_or l.dst (l.at_dst + k) 0))) l.initial.part l.i l.part
 
 abbrev pub decreases-loop-i : goal.decreases-loop-i
 decreases-loop-i l = l.n - l.i

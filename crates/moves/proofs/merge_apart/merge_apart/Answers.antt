@@ -14,7 +14,7 @@ use Rattle.moves.specs.Paired.{value_at}
 use Rattle.moves.proofs.BlockLaws.{WrittenTo, written_none, written_end}
 use Rattle.moves.proofs.SpanLaws.{reads}
 use Rattle.moves.proofs.GroupLaws.{group_small, groups_whole, groups_few, group_index, group_first, part_paired, group_merged, group_passed}
-use Rattle.moves.proofs.merge_apart.merge_apart.Goals.{Then-are_written}
+use Rattle.moves.proofs.merge_apart.merge_apart.Goals.{Then-are_written, then-are_written, else-are_written}
 use Rattle.moves.proofs.merge_apart.merge_apart.Goals as goal
 
 first : (c : Then-are_written) → let a = c.args in c.loop-g.g * a.per < a.to.count
@@ -72,10 +72,10 @@ loop-g-preserved c =
     let a = c.args in
     let h = c.requires in
     let l = c.loop-g in
-    ⊎_elim
-    (λ w. (omega arith, l.invariant.1, rw w.7 (group_merged a.m a.per h.2 a.zeroing a.p.now a.src.now a.to a.from a.dst.now l.g l.invariant.2 (rw (w.2.ensures, w.3.ensures) at w.4.ensures))))
-    (λ w. (omega arith, l.invariant.1, rw w.1 (group_passed a.m a.per h.2 a.zeroing a.p.now a.src.now a.to a.from a.dst.now l.g l.invariant.2 (sym c.Are-written.ensures ∙ w.0.left))))
-    c.if-are_written.branch
+    elim c.if-are_written.branch [
+      then-are_written w ↦ (omega arith, l.invariant.1, rw w.dst-is (group_merged a.m a.per h.2 a.zeroing a.p.now a.src.now a.to a.from a.dst.now l.g l.invariant.2 (rw (w.part.ensures, w.part-then-are_written.ensures) at w.merge_few.ensures)))
+    | else-are_written w ↦ (omega arith, l.invariant.1, rw w.dst-is (group_passed a.m a.per h.2 a.zeroing a.p.now a.src.now a.to a.from a.dst.now l.g l.invariant.2 (sym c.are_written.ensures ∙ w.if-are_written.false)))
+    ]
 
 pub returns : goal.returns
 returns c =

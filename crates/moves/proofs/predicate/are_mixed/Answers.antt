@@ -13,4 +13,4 @@ pub overflow_add-clear : goal.overflow_add-clear
 overflow_add-clear c = omega (arith, and_le_r (bit_xor c.args.v c.args.bits) 0x7F7F7F7F7F7F7F7F)
 
 pub returns : goal.returns
-returns c = tests_mixed c.args.v c.args.bits s q (eqb-true _ _ e)
+returns c s q e = tests_mixed c.args.v c.args.bits s q (eqb-true _ _ e)

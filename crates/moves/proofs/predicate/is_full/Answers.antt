@@ -22,7 +22,7 @@ pub eight-requires : goal.eight-requires
 eight-requires c = omega arith
 
 pub returns-then-eight-bits : goal.returns-then-eight-bits
-returns-then-eight-bits c = absurd (false≢true e)
+returns-then-eight-bits c e = absurd (false≢true e)
 
 pub overflow_add-g : goal.overflow_add-g
 overflow_add-g c = omega arith
@@ -36,7 +36,7 @@ loop-g-preserved c =
     (omega arith, eights_more c.args.p.now c.element_bits-bits.result l.g l.invariant.1 (rw c.eight.ensures at c.if-eight-bits.false))
 
 pub returns : goal.returns
-returns c =
+returns c e =
     let l = c.loop-g in
     let a = c.args in
     let n = length a.p.now / 8 in

@@ -24,4 +24,4 @@ pub returns : goal.returns
 returns c =
     let l = c.loop-i in
     let a = c.args in
-    each_filled (λ k. bit_and (get_or a.p.now (a.at + k / 8) 0) (get_or a.t3 k 0)) 16 _ (scatter_end _ _ _ _ l.invariant.2.1 l.invariant.0 c.loop-i-test.false) (omega arith)
+    each_filled (λ k. bit_and (get_or a.p.now (a.at + k / 8) 0) (get_or a.masks k 0)) 16 _ (scatter_end _ _ _ _ l.invariant.2.1 l.invariant.0 c.loop-i-test.false) (omega arith)

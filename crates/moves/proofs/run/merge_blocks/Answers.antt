@@ -36,6 +36,6 @@ loop-first-preserved c =
     )
 
 pub returns : goal.returns
-returns c =
+returns c s q g =
     let l = c.loop-first in
     rw (le_antisymm l.invariant.1 c.loop-first-test.false) at (l.invariant.3 s q g)

@@ -25,7 +25,7 @@ pub returns : goal.returns
 returns c =
     let l = c.loop-i in
     let a = c.args in
-    let val : ℕ → ℕ = λ k. get_or a.src.now (a.at-src + k) 0 in
+    let val : ℕ → ℕ = λ k. get_or a.src.now (a.at_src + k) 0 in
     c.copy_bytes.ensures
-    ∙ scatter_by_part _ _ (λ k. cond (masked a.b a.t6 k) (val k) (get_or a.dst.now (a.at-dst + k) 0)) _ _ _ _ (omega (arith, l.invariant.1)) (scatter_end _ _ _ _ l.invariant.2.1 l.invariant.0 c.loop-i-test.false)
-    ∙ scatter_picked a.at-dst (λ k. masked a.b a.t6 k) val a.dst.now _
+    ∙ scatter_by_part _ _ (λ k. cond (masked a.b a.masks k) (val k) (get_or a.dst.now (a.at_dst + k) 0)) _ _ _ _ (omega (arith, l.invariant.1)) (scatter_end _ _ _ _ l.invariant.2.1 l.invariant.0 c.loop-i-test.false)
+    ∙ scatter_picked a.at_dst (λ k. masked a.b a.masks k) val a.dst.now _

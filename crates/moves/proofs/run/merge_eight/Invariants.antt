@@ -15,7 +15,7 @@ use Rattle.moves.proofs.run.merge_eight.Given as goal
 
 abbrev pub invariant-loop-i : goal.invariant-loop-i
 invariant-loop-i l =
-    (l.i ≤ 8) × (length l.initial.part ≡ 8) × WrittenTo each all (λ (k : ℕ). cond (masked l.b l.masks k) (get_or l.src (at-src + k) 0) (get_or l.dst (at-dst + k) 0)) l.initial.part l.i l.part
+    (l.i ≤ 8) × (length l.initial.part ≡ 8) × WrittenTo each all (λ (k : ℕ). cond (masked l.b l.masks k) (get_or l.src (l.at_src + k) 0) (get_or l.dst (l.at_dst + k) 0)) l.initial.part l.i l.part
 
 abbrev pub decreases-loop-i : goal.decreases-loop-i
 decreases-loop-i l = 8 - l.i

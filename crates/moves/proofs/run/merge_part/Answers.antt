@@ -11,4 +11,4 @@ pub merge_blocks-requires : goal.merge_blocks-requires
 merge_blocks-requires c = let pre = c.requires in (pre.0 c.if-p-lt8.false, pre.1, pre.2, pre.3)
 
 pub returns-then-p-lt8 : goal.returns-then-p-lt8
-returns-then-p-lt8 c = c.merge_by_byte.ensures.0 s g
+returns-then-p-lt8 c s q g = c.merge_by_byte.ensures.0 s g

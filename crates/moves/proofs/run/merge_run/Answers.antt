@@ -17,8 +17,8 @@ merge_part-requires c =
     let n = 8 * length a.p.now in
     let bits = c.element_bits in (
       pre.1,
-      omega (arith, lent_length a.at-dst n a.dst.now pre.3),
-      omega (arith, lent_length a.at-src n a.src.now pre.4),
+      omega (arith, lent_length a.at_dst n a.dst.now pre.3),
+      omega (arith, lent_length a.at_src n a.src.now pre.4),
       record { size = a.size; eight = bits.ensures; goes = rw bits.ensures (goes_by a.size c.masks.result pre.0 c.masks.ensures) },
     )
 
@@ -33,5 +33,5 @@ returns-else-is_full c =
     let pre = c.requires in
     let bits = c.element_bits in
     let table = c.masks in
-    merged_lent a.p.now a.size a.src.now a.at-src a.at-dst a.dst.now pre.3
+    merged_lent a.p.now a.size a.src.now a.at_src a.at_dst a.dst.now pre.3
     (c.merge_part.ensures a.size bits.ensures (rw bits.ensures (goes_by a.size table.result pre.0 table.ensures)))

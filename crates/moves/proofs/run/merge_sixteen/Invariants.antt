@@ -15,7 +15,7 @@ use Rattle.moves.proofs.run.merge_sixteen.Given as goal
 
 abbrev pub invariant-loop-i : goal.invariant-loop-i
 invariant-loop-i l =
-    (l.i ≤ 16) × (length l.initial.part ≡ 16) × WrittenTo each all (λ (k : ℕ). cond (flag l.on k) (get_or l.src (at-src + k) 0) (get_or l.dst (at-dst + k) 0)) l.initial.part l.i l.part
+    (l.i ≤ 16) × (length l.initial.part ≡ 16) × WrittenTo each all (λ (k : ℕ). cond (flag l.on k) (get_or l.src (l.at_src + k) 0) (get_or l.dst (l.at_dst + k) 0)) l.initial.part l.i l.part
 
 abbrev pub decreases-loop-i : goal.decreases-loop-i
 decreases-loop-i l = 16 - l.i
