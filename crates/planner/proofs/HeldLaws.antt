@@ -1,13 +1,13 @@
 -- Laws of lists of held tiles: free tiles, valid lists, and the list that a record holds.
 -- Assumes nothing.
 use Prim.Native.Nat.{ℕ, zero, suc, ◌+◌, ◌-◌, ◌<◌, ◌≤◌}
-use mathlib.Core.Path.{◌≡◌, refl, sym, ap, ◌∙◌}
+use mathlib.Core.Path.{◌≡◌, refl, ap, ◌∙◌}
 use mathlib.Core.Bool.{true, false, ◌&&◌}
-use mathlib.Core.List.{List, [], ◌∷◌, map}
+use mathlib.Core.List.{List, [], ◌∷◌}
 use native.Mathlib.Omega.{arith}
 use native.Mathlib.Numerals.{add-one}
 use lib.Dec.{leb}
-use lib.ListN.{length, length-map, get_or, take, drop, drop_of_length-le}
+use lib.ListN.{length, get_or, take, drop, drop_of_length-le}
 use lib.Seq.{drop-cons, drop-drop, get_or-take, length-take-le}
 use borrow.Author.Tests.{leb-true}
 use Rattle.general.proofs.BoolLaws.{and_parts, refute, clash}
@@ -16,13 +16,8 @@ use Rattle.planner.specs.Held.{held_tiles, valid_held}
 use Rattle.planner.specs.Steps.{TilesFrom}
 use Rattle.planner.specs.declared.tile.Tile.{Tile}
 use Rattle.planner.specs.declared.held.Held.{Held}
-use Rattle.planner.specs.contracts.tile.Tile.{the_field}
 
 -- ---- the held tiles from a place on
-
--- a record's array has sixteen places, as the value that owns it says
-pub tiles_length : (h : Held) → length (map the_field.into h.tiles) ≡ 16 → length h.tiles ≡ 16
-tiles_length h e = sym (length-map h.tiles the_field.into) ∙ e
 
 held_end : (ts : List Tile) (n i : ℕ) → n ≤ i → n ≤ length ts → drop i (take n ts) ≡ []
 held_end ts n i w h = drop_of_length-le (take n ts) {i = i} (rw (length-take-le n ts h) w)

@@ -1,6 +1,5 @@
 -- `planner::giving_up::keep` meets its contract.
 -- Assumes nothing.
-use borrow.Author.Rules.{rules}
 use Rattle.planner.proofs.giving_up.keep.Goals as goal
 
 pub returns-then-is_same : goal.returns-then-is_same

@@ -6,8 +6,6 @@ use mathlib.Core.Path.{◌≡◌, refl, sym, ap, ◌∙◌}
 use mathlib.Core.Bool.{true}
 use mathlib.Core.Option.{some}
 use native.Mathlib.Omega.{arith}
-use borrow.Author.Rules.{rules}
-use borrow.Author.Tests.{not-true, not-false}
 use Rattle.general.proofs.LeastLaws.{least_some}
 use Rattle.planner.specs.Tile.{tile_of, is_size, is_free, lowest_free}
 use Rattle.planner.specs.Held.{held_tiles, valid_held}
@@ -15,11 +13,10 @@ use Rattle.planner.specs.Steps.{lowest_in}
 use Rattle.planner.specs.declared.answer.TileAnswer.TheVariants.{Done}
 use Rattle.planner.proofs.SizeLaws.{size_range, size_parts}
 use Rattle.planner.proofs.TileLaws.{exists_tile}
-use Rattle.planner.proofs.HeldLaws.{tiles_length}
 use Rattle.planner.proofs.PartLaws.{room_for}
 use Rattle.planner.proofs.SearchLaws.{search_none, search_some}
 use Rattle.planner.proofs.RoomLaws.{take_size, take_held, take_none, take_some, takes_one}
-use Rattle.planner.proofs.taking.take.Goals.{Else-not-is_valid, After-lowest-free, Else-number-eq16}
+use Rattle.planner.proofs.taking.take.Goals.{Else-not-is_valid, Else-number-eq16}
 use Rattle.planner.proofs.taking.take.Goals as goal
 
 -- the size and the held tiles are good where the search begins
@@ -29,14 +26,11 @@ size-good c = sym c.is_size.ensures ∙ c.if-not-is_size.false
 held-good : (c : Else-not-is_valid) → valid_held c.args.held ≡ true
 held-good c = sym c.is_valid.ensures ∙ c.if-not-is_valid.false
 
--- what the search found
-searched : (c : After-lowest-free) → let a = c.args in c.lowest_free-number.result ≡ lowest_in (held_tiles a.held) a.bytes 1 0
-searched c = let a = c.args in
-    c.lowest_free-number.ensures ∙ ap (λ (k : ℕ). lowest_in (held_tiles a.held) k 1 0) (size_parts _ (size-good c)).1
-
 -- a tile that was found
-found : (c : Else-number-eq16) → let a = c.args in lowest_free (held_tiles a.held) a.bytes ≡ some c.lowest_free-number.result
-found c = search_some _ _ _ (sym (searched c)) c.if-number-eq16.false
+found : (c : Else-number-eq16) → lowest_free (held_tiles c.args.held) c.args.bytes ≡ some c.lowest_free-number.result
+found c =
+    let g = size_parts _ (sym c.is_size.ensures ∙ c.if-not-is_size.false) in
+    search_some _ _ _ (sym (c.lowest_free-number.ensures ∙ ap (λ (k : ℕ). lowest_in (held_tiles c.args.held) k 1 0) g.1)) c.if-number-eq16.false
 
 pub returns-then-not-is_size : goal.returns-then-not-is_size
 returns-then-not-is_size c = takes_one _ _ _ (c.refuse.ensures ∙ sym (take_size _ _ (sym c.is_size.ensures ∙ c.if-not-is_size.true)))
@@ -53,21 +47,27 @@ pub lowest_free-number-requires : goal.lowest_free-number-requires
 unfolding is_size
 lowest_free-number-requires c =
     let m = c.args.bytes in
-    let p = (size_parts m (size-good (goal.at.lowest_free-number-requires c).Else-not-is_valid)).0 in
-    (p, refl, (size_range (16 / m) p).1, omega arith, held-good (goal.at.lowest_free-number-requires c).Else-not-is_valid)
+    let s = (goal.at.lowest_free-number-requires c).Else-not-is_valid in
+    let p = (size_parts m (size-good s)).0 in
+    (p, refl, (size_range (16 / m) p).1, omega arith, held-good s)
 
 pub returns-then-number-eq16 : goal.returns-then-number-eq16
 returns-then-number-eq16 c =
+    let s = (goal.at.returns-then-number-eq16 c).Else-not-is_valid in
+    let g = size-good s in
+    let e = c.lowest_free-number.ensures ∙ ap (λ (k : ℕ). lowest_in (held_tiles c.args.held) k 1 0) (size_parts _ g).1 in
     takes_one _ _ _ (c.refuse-then-number-eq16.ensures
-    ∙ sym (take_none _ _ (size-good (goal.at.returns-then-number-eq16 c).Else-not-is_valid) (held-good (goal.at.returns-then-number-eq16 c).Else-not-is_valid) (search_none _ _ (size_range _ (size-good (goal.at.returns-then-number-eq16 c).Else-not-is_valid)).1 (sym (searched (goal.at.returns-then-number-eq16 c).After-lowest-free) ∙ c.if-number-eq16.true))))
+    ∙ sym (take_none _ _ g (held-good s) (search_none _ _ (size_range _ g).1 (sym e ∙ c.if-number-eq16.true))))
 
 pub join-joined-requires : goal.join-joined-requires
 join-joined-requires c =
     let h = c.args.held in
+    let s = (goal.at.join-joined-requires c).Else-not-is_valid in
     let p = least_some (λ t. is_free (held_tiles h) (tile_of c.args.bytes t)) c.args.bytes _ (found (goal.at.join-joined-requires c).Else-number-eq16) in
-    room_for h _ (tiles_length h c.well-formed.0.1.1.0.1.0.1) (held-good (goal.at.join-joined-requires c).Else-not-is_valid) (exists_tile _ (record { size = size-good (goal.at.join-joined-requires c).Else-not-is_valid; below = p.0 })) p.1
+    room_for h _ (omega arith) (held-good s) (exists_tile _ (record { size = size-good s; below = p.0 })) p.1
 
 pub returns : goal.returns
 returns c =
+    let s = (goal.at.returns c).Else-not-is_valid in
     takes_one _ _ _ (ap (λ k. record { answer = Done; number = c.lowest_free-number.result; held = k }) c.join-joined.ensures
-    ∙ sym (take_some _ _ _ (size-good (goal.at.returns c).Else-not-is_valid) (held-good (goal.at.returns c).Else-not-is_valid) (found (goal.at.returns c).Else-number-eq16)))
+    ∙ sym (take_some _ _ _ (size-good s) (held-good s) (found (goal.at.returns c).Else-number-eq16)))

@@ -2,7 +2,6 @@
 -- Assumes nothing.
 use mathlib.Core.Path.{sym}
 use native.Mathlib.Omega.{arith}
-use borrow.Author.Rules.{rules}
 use Rattle.general.proofs.BoolLaws.{refute}
 use Rattle.planner.specs.Tile.{is_size}
 use Rattle.planner.proofs.SizeLaws.{size_range}

@@ -1,6 +1,5 @@
 -- `planner::tile::is_tile` meets its contract.
 -- Assumes nothing.
-use borrow.Author.Rules.{rules}
 use Rattle.planner.proofs.tile.is_tile.Goals as goal
 
 pub returns-then-is_size : goal.returns-then-is_size
