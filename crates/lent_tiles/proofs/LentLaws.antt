@@ -4,12 +4,11 @@ use Prim.Native.Nat.{ℕ, zero, suc, ◌+◌, ◌*◌, ◌/◌, ◌%◌, ◌<◌
 use mathlib.Core.Path.{◌≡◌, refl, sym, ap, subst, ◌∙◌}
 use mathlib.Core.Bool.{Bool, true, false, cond, not, ◌&&◌}
 use mathlib.Core.List.{List, [], ◌∷◌, ◌++◌, append-nil}
-use mathlib.Core.Logic.{◌⊎◌, inl, inr, ⊎_elim}
+use mathlib.Core.Logic.{◌⊎◌, inl, inr}
+use Rattle.std.proofs.Common.{◌≢◌}
 use native.Mathlib.Decide.{ℕ_discrete}
 use native.Mathlib.Numerals.{add-one}
 use native.Mathlib.Omega.{arith}
-use types.Run.{OneOf}
-use denote.Enum.Declared.{tag_of}
 use lib.Dec.{ltb}
 use lib.ListN.{length, length-append, get_or, set, replicate, get_or-append}
 use lib.Seq.{get_or-append_seam, length-take-le}
@@ -28,7 +27,6 @@ use Rattle.planner.specs.declared.answer.TileAnswer.{TileAnswer}
 use Rattle.planner.specs.declared.answer.TileAnswer.TheVariants.{Done, BadSize, BadHeld, NoFreeTile}
 use Rattle.planner.specs.declared.answer.Taken.{Taken}
 use Rattle.planner.specs.declared.answer.GivenUp.{GivenUp}
-use Rattle.planner.specs.contracts.answer.TileAnswer.{the_type}
 use Rattle.planner.proofs.HeldLaws.{valid_held_lem, valid_tiles}
 use Rattle.planner.proofs.RoomLaws.{joined_from, without_length}
 use Rattle.planner.proofs.AnswerLaws.{give_up_among}
@@ -103,9 +101,9 @@ module _ (h : Held) (i : ℕ) where
 
 -- ---- answering
 
--- the `else` of a `let` knows the tag: not done
-pub not_done : (a : TileAnswer) → OneOf (1 ∷ 2 ∷ 3 ∷ []) (tag_of the_type a) → is_done a ≡ false
-not_done Done k = absurd (⊎_elim (λ e. omega arith) (⊎_elim (λ e. omega arith) (λ e. omega arith)) k)
+-- the `else` of a `let` knows that the answer is not done
+pub not_done : (a : TileAnswer) → a ≢ Done → is_done a ≡ false
+not_done Done k = absurd (k refl)
 not_done BadSize k = refl
 not_done BadHeld k = refl
 not_done NoFreeTile k = refl
@@ -125,7 +123,7 @@ module _ (ns : List ℕ) (n m : ℕ) (h : Held) (r : Taken) (read : h ≡ held_i
   unfolding take_in
   placed = ap (λ (k : Taken). if_placed ns (held_in ns n) k) (sym same) ∙ ap (λ (k : Held). if_placed ns k r) (sym read)
 
-  pub take_refused : OneOf (1 ∷ 2 ∷ 3 ∷ []) (tag_of the_type r.answer) → r ≡ take_in ns n m
+  pub take_refused : r.answer ≢ Done → r ≡ take_in ns n m
   take_refused k = sym (placed ∙ rw (not_done r.answer k))
 
   pub take_unplaced : r.answer ≡ Done → length ns / 2 < r.held.count → refused BadHeld h ≡ take_in ns n m
@@ -187,7 +185,7 @@ give_up_places ns n x e =
 -- ---- settling
 
 module _ (ns : List ℕ) (n : ℕ) (a : TileAnswer) (h : Held) (r : ℕ) (number : r ≡ answer_number a) where
-  pub settle_stays : OneOf (1 ∷ 2 ∷ 3 ∷ []) (tag_of the_type a) → Settles ns n a h r ns n
+  pub settle_stays : a ≢ Done → Settles ns n a h r ns n
   settle_stays k = let e = not_done a k in record { number = number; tiles = rw e; count = rw e }
 
   pub settle_writes : (ns' : List ℕ) → a ≡ Done → ns' ≡ held_out ns h → Settles ns n a h r ns' h.count
