@@ -2,7 +2,7 @@
 -- Assumes nothing.
 use Prim.Native.Nat.{ℕ, zero, suc, ◌+◌, ◌*◌, ◌/◌, ◌%◌, ◌<◌, ◌≤◌}
 use mathlib.Core.Path.{◌≡◌, refl, sym, ap, ◌∙◌}
-use mathlib.Core.Bool.{true, cond, ◌&&◌, and_false}
+use mathlib.Core.Bool.{true, cond, ◌&&◌, and-false}
 use mathlib.Core.List.{List}
 use native.Mathlib.Nat.{zero-add}
 use native.Mathlib.Omega.{arith}
@@ -71,7 +71,7 @@ module _ (long apart : ℕ) (w : ℕ → ℕ) (fit : long < apart) where
   byte_beyond : (b n v k : ℕ) → v < n → long ≤ k → k < apart → get_or (numbered (by_both b) 0 (n * apart)) (v * apart + k) 0 ≡ b
   byte_beyond b n v k hv hk below =
       numbered_at (by_both b) 0 (n * apart) (v * apart + k) (digits_lt hv below) ∙
-      rw (zero-add (v * apart + k), digits_mod v below, le-ltb k long hk, and_false (ltb ((v * apart + k) / apart) long))
+      rw (zero-add (v * apart + k), digits_mod v below, le-ltb k long hk, and-false (ltb ((v * apart + k) / apart) long))
 
   part_past : (b n v k : ℕ) → long ≤ v → v < n → k < apart → get_or (numbered (by_both b) 0 (n * apart)) (v * apart + k) 0 ≡ b
   part_past b n v k hv most below =

@@ -1,0 +1,30 @@
+-- `execute::tile::take_from_tile` meets its contract: both spans are what the leaf asks for, and it writes what the definition says.
+-- Assumes nothing.
+use native.Mathlib.Omega.{arith}
+use Rattle.execute.proofs.MoveLaws.{from_slice, slice_apart, taken_slice, zeroed_slice, taken_from_tile}
+use borrow.Author.Rules.{rules}
+use Rattle.execute.proofs.tile.take_from_tile.Goals as goal
+
+pub slice_span-from-requires : goal.slice_span-from-requires
+slice_span-from-requires c =
+    let e = c.requires in
+    (e.0.vectors, omega (arith, e.0.x, e.1.slice.index), e.1.slice.offset, e.1.slice.tile)
+
+pub vector_span-to-requires : goal.vector_span-to-requires
+vector_span-to-requires c = let e = c.requires in (e.0.vectors, omega (arith, e.1.vector))
+
+pub take-requires : goal.take-requires
+take-requires c =
+    let e = c.requires in
+    let a = c.args in (
+      from_slice a.settings a.x.now a.z.now a.p.now a.za.now e.0 a.operation.slice e.1.slice a.operation.zd e.1.vector c.slice_span-from.ensures c.vector_span-to.ensures,
+      slice_apart a.settings a.x.now a.z.now a.p.now a.za.now e.0 a.operation.slice e.1.slice a.operation.zd e.1.vector c.slice_span-from.ensures c.vector_span-to.ensures,
+    )
+
+pub returns : goal.returns
+returns c =
+    let e = c.requires in
+    let a = c.args in
+    taken_from_tile a.settings a.x.now a.z.now a.p.now a.za.now a.operation
+    (taken_slice a.settings a.x.now a.z.now a.p.now a.za.now e.0 a.operation.slice e.1.slice a.operation.zd e.1.vector c.slice_span-from.ensures c.vector_span-to.ensures c.take.ensures.dst_after)
+    (zeroed_slice a.settings a.x.now a.z.now a.p.now a.za.now e.0 a.operation.slice e.1.slice a.operation.zd e.1.vector c.slice_span-from.ensures c.vector_span-to.ensures c.take.ensures.src_after)
