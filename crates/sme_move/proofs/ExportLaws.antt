@@ -4,11 +4,8 @@ use Prim.Native.Nat.{ℕ}
 use mathlib.Core.Path.{◌≡◌, refl, sym, ◌∙◌, ap, subst}
 use mathlib.Core.Bool.{Bool, true, false, cond}
 use mathlib.Core.List.{List, [], ◌∷◌}
-use mathlib.Core.Logic.{⊎_elim}
 use native.Mathlib.Omega.{arith}
 use lib.ListN.{set}
-use types.Run.{OneOf}
-use denote.Enum.Declared.{tag_of}
 use Rattle.settings.specs.Answer.{done, bad_settings, checked_number, Answer}
 use Rattle.settings.specs.Settings.{valid_vectors, Measures}
 use Rattle.settings.specs.declared.Settings.{Settings}
@@ -20,7 +17,6 @@ use Rattle.encoding.specs.Flat.{flat_of}
 use Rattle.encoding.specs.declared.operation.Operation.{Operation}
 use Rattle.encoding.specs.declared.operation.Decoded.{Decoded}
 use Rattle.encoding.specs.declared.operation.Decoded.TheVariants.{Done, BadLevel, Undecodable}
-use Rattle.encoding.specs.contracts.operation.Decoded.{the_type}
 use Rattle.settings.specs.Results.{filled}
 use Rattle.settings.proofs.ResultLaws.{puts_more}
 use Rattle.semantics.specs.Answer.{executed_number, executed_fault, result_numbers}
@@ -32,9 +28,9 @@ use Rattle.sme_move.specs.Export.{Exports, fields_after, DecodeExports, LengthEx
 
 -- ---- decoding
 
--- the `else` of a `let` knows the tag: no operation, so the fields stay
-fields_stay : (d : Decoded) (f : List ℕ) → OneOf (1 ∷ 2 ∷ []) (tag_of the_type d) → f ≡ fields_after (decoded_answer d) f
-fields_stay (Done o) f k = absurd (⊎_elim (λ e. omega arith) (λ e. omega arith) k)
+-- the `else` of a `let` knows that there is no operation, so the fields stay
+fields_stay : (d : Decoded) (f : List ℕ) → ((o : Operation) → d ≡ Done o → ⊥) → f ≡ fields_after (decoded_answer d) f
+fields_stay (Done o) f k = absurd (k o refl)
 fields_stay BadLevel f k = refl
 fields_stay Undecodable f k = refl
 
@@ -47,7 +43,7 @@ module _ (w level : ℕ) (f : List ℕ) (d : Decoded) (h : Decodes w level d) wh
       }
 
   -- a refusal
-  pub decode_refuses : (r : ℕ) → r ≡ (decoded_answer d).number → OneOf (1 ∷ 2 ∷ []) (tag_of the_type d) → DecodeExports w level f r f
+  pub decode_refuses : (r : ℕ) → r ≡ (decoded_answer d).number → ((o : Operation) → d ≡ Done o → ⊥) → DecodeExports w level f r f
   decode_refuses r e k = exports r f e (fields_stay d f k)
 
   -- an operation
