@@ -14,7 +14,7 @@ use Rattle.general.proofs.DeterminedLaws.{equal_determines, one_of_test, other_n
 use Rattle.settings.specs.Answer.{done, bad_settings, checked_number}
 use Rattle.settings.specs.Settings.{is_vector_length, valid_vectors, valid_settings, check_of, check_number, Checks, settings_of, make_of, Makes, lengths_of, length_numbers, Measures}
 use Rattle.settings.specs.Lent.{is_off, is_on, no_settings, settings_in}
-use Rattle.settings.specs.Claims.{five, FiveLengths, Fitting, VectorsFit, LengthsGoByLargest, Items, Plain, ItemsChange, NoMachine, LentSettings, ChecksDetermine, MakesDetermine, MeasuresDetermine, SettingsDetermine}
+use Rattle.settings.specs.Claims.{five, FiveLengths, VectorsFit, LengthsGoByLargest, Items, Plain, ItemsChange, NoMachine, LentSettings, ChecksDetermine, MakesDetermine, MeasuresDetermine, SettingsDetermine}
 use Rattle.settings.specs.declared.Settings.{Settings}
 use Rattle.settings.specs.declared.Checked.{Checked}
 use Rattle.settings.specs.declared.Checked.TheVariants.{Valid, BadSettings}

@@ -6,7 +6,7 @@ use mathlib.Core.List.{List, [], ◌∷◌, ◌++◌}
 use native.Mathlib.Nat.{not-suc-le-zero, le_of_suc-le-suc}
 use lib.ListN.{length, get_or, set}
 use Rattle.settings.specs.Results.{filled}
-use Rattle.settings.specs.Claims.{FilledIs, ResultsFill}
+use Rattle.settings.specs.Claims.{ResultsFill}
 
 -- a place that an array does not have
 pub set_beyond : (old : List ℕ) (place n : ℕ) → length old ≤ place → old ≡ set old place n

@@ -2,7 +2,6 @@
 -- Assumes nothing.
 use native.Mathlib.Omega.{arith}
 use Rattle.encoding.proofs.CodecLaws.{bad_level_lem}
-use borrow.Author.Rules.{rules}
 use Rattle.decoder.proofs.decode.Goals as goal
 
 pub returns-then-level-gt-MAX_LEVEL : goal.returns-then-level-gt-MAX_LEVEL

@@ -1,6 +1,5 @@
 -- `decoder::decoded` meets its contract: each arm of the match is a case of the definition.
 -- Assumes nothing.
-use borrow.Author.Rules.{rules}
 use Rattle.decoder.proofs.decoded.Goals as goal
 
 pub returns-in-Done : goal.returns-in-Done

@@ -1,6 +1,5 @@
 -- `decoder::operation_in` meets its contract: each arm is a case of the definition, with the fields that were cut out.
 -- Assumes nothing.
-use borrow.Author.Rules.{rules}
 use Rattle.decoder.proofs.operation_in.Goals as goal
 
 pub returns-in-ToTile : goal.returns-in-ToTile

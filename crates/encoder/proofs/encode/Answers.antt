@@ -1,7 +1,6 @@
 -- `encoder::encode` meets its contract: the kind's function is called with the parts of its struct.
 -- Assumes nothing.
 use mathlib.Core.Bool.{false≢true}
-use borrow.Author.Rules.{rules}
 use Rattle.encoder.proofs.encode.Goals as goal
 
 pub encode_from_tile-requires-in-MovaFromTile : goal.encode_from_tile-requires-in-MovaFromTile

@@ -2,7 +2,6 @@
 -- Assumes nothing.
 use native.Mathlib.Omega.{arith}
 use Rattle.encoder.proofs.EncoderLaws.{array_encodes, array_refuses}
-use borrow.Author.Rules.{rules}
 use Rattle.encoder.proofs.encode_array.Goals as goal
 
 pub returns-then-rv-lt8 : goal.returns-then-rv-lt8

@@ -2,8 +2,6 @@
 -- Assumes nothing.
 use mathlib.Core.Path.{sym, ◌∙◌}
 use native.Mathlib.Omega.{arith}
-use borrow.Author.Rules.{rules}
-use borrow.Author.Tests.{not-true, not-false}
 use Rattle.encoder.proofs.EncoderLaws.{SliceRange, slice_held_lem, slice_outside, from_tile_encodes, from_tile_refuses}
 use Rattle.encoder.proofs.encode_from_tile.Goals.{Else-not-is_slice_held}
 use Rattle.encoder.proofs.encode_from_tile.Goals as goal

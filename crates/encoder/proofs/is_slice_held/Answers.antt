@@ -2,7 +2,6 @@
 -- Assumes nothing.
 use mathlib.Core.Path.{ap, ◌∙◌}
 use lib.Dec.{ltb}
-use borrow.Author.Rules.{rules}
 use native.Mathlib.Omega.{arith}
 use Rattle.encoder.proofs.EncoderLaws.{slice_rest, slice_refused}
 use Rattle.encoder.proofs.is_slice_held.Goals as goal

@@ -3,7 +3,6 @@
 use native.Mathlib.Omega.{arith}
 use mathlib.Core.Path.{refl}
 use Rattle.encoder.proofs.EncoderLaws.{shared_below}
-use borrow.Author.Rules.{rules}
 use Rattle.encoder.proofs.shared_bits.Goals as goal
 
 pub overflow_mul-result : goal.overflow_mul-result

@@ -1,6 +1,5 @@
 -- `flat::array_numbers` meets its contract: it lists what the definition lists.
 -- Assumes nothing.
-use borrow.Author.Rules.{rules}
 use Rattle.flat.proofs.array_numbers.Goals as goal
 
 pub returns : goal.returns

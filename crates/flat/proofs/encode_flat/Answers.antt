@@ -2,7 +2,6 @@
 -- Assumes nothing.
 use Rattle.encoding.specs.Codec.{encode_flat_of}
 use Rattle.encoding.proofs.CodecLaws.{encodes_flat_lem}
-use borrow.Author.Rules.{rules}
 use Rattle.flat.proofs.encode_flat.Goals as goal
 
 pub returns-in-Done : goal.returns-in-Done

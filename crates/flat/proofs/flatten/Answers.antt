@@ -1,6 +1,5 @@
 -- `flat::flatten` meets its contract: each arm lists what the definition lists.
 -- Assumes nothing.
-use borrow.Author.Rules.{rules}
 use Rattle.flat.proofs.flatten.Goals as goal
 
 pub returns-in-MovaToTile : goal.returns-in-MovaToTile

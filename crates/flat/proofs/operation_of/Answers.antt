@@ -1,8 +1,6 @@
 -- `flat::operation_of` meets its contract: each arm reads what the definition reads.
 -- Assumes nothing.
-use denote.Slice.{shr_slice_at}
 use Rattle.encoding.proofs.FlatLaws.{last_kind}
-use borrow.Author.Rules.{rules}
 use Rattle.flat.proofs.operation_of.Goals as goal
 
 pub returns-in-1 : goal.returns-in-1

@@ -1,6 +1,5 @@
 -- `flat::slice_of` meets its contract: it reads what the definition reads.
 -- Assumes nothing.
-use borrow.Author.Rules.{rules}
 use Rattle.flat.proofs.slice_of.Goals as goal
 
 pub returns : goal.returns

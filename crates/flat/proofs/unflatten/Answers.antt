@@ -4,7 +4,6 @@ use mathlib.Core.Path.{sym, ap, ◌∙◌}
 use mathlib.Core.Bool.{true≢false}
 use Rattle.encoding.specs.Flat.{flat_of}
 use Rattle.encoding.proofs.FlatLaws.{unflattens, unflattens_none}
-use borrow.Author.Rules.{rules}
 use Rattle.flat.proofs.unflatten.Goals as goal
 
 pub returns-then-same : goal.returns-then-same

@@ -1,6 +1,5 @@
 -- `moves::are_runs` meets its contract: both steps are the element's bytes.
 -- Assumes nothing.
-use borrow.Author.Rules.{rules}
 use borrow.Author.Tests.{eq-eqb, ne_eqb}
 use Rattle.moves.proofs.are_runs.Goals as goal
 

@@ -1,6 +1,5 @@
 -- `moves::copy` meets its contract: elements that touch are a run of bytes.
 -- Assumes nothing.
-use borrow.Author.Rules.{rules}
 use native.Mathlib.Omega.{arith}
 use Rattle.tiles.specs.Element.{bytes_of}
 use Rattle.general.specs.Scatter.{all}

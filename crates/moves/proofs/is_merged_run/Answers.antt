@@ -1,6 +1,5 @@
 -- `moves::is_merged_run` meets its contract: the size first, then both steps.
 -- Assumes nothing.
-use borrow.Author.Rules.{rules}
 use borrow.Author.Tests.{le-ltb, lt-ltb}
 use Rattle.moves.proofs.is_merged_run.Goals as goal
 

@@ -1,6 +1,5 @@
 -- `moves::merge` meets its contract: elements that touch are a run of bytes.
 -- Assumes nothing.
-use borrow.Author.Rules.{rules}
 use mathlib.Core.Path.{sym, ◌∙◌}
 use Rattle.moves.proofs.SpanLaws.{merged_run_steps, runs_governed, run_written, merged_active}
 use Rattle.moves.proofs.merge.Goals as goal

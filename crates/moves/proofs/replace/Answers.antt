@@ -1,6 +1,5 @@
 -- `moves::replace` meets its contract: where every element is active a copy does it.
 -- Assumes nothing.
-use borrow.Author.Rules.{rules}
 use mathlib.Core.Bool.{true}
 use Rattle.moves.proofs.SpanLaws.{full_merged}
 use Rattle.moves.proofs.replace.Goals as goal

@@ -1,6 +1,5 @@
 -- `moves::replace_partly` meets its contract: a run is cleared, and its active elements are then written.
 -- Assumes nothing.
-use borrow.Author.Rules.{rules}
 use mathlib.Core.Path.{ap, ◌∙◌}
 use mathlib.Core.Bool.{cond}
 use Prim.Native.Nat.{ℕ, ◌+◌, ◌*◌}

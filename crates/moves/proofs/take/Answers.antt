@@ -1,6 +1,5 @@
 -- `moves::take` meets its contract: elements that touch are a run of bytes, which is copied and then cleared.
 -- Assumes nothing.
-use borrow.Author.Rules.{rules}
 use mathlib.Core.Path.{sym, ap, ◌∙◌}
 use Prim.Native.Nat.{ℕ, ◌*◌}
 use native.Mathlib.Omega.{arith}

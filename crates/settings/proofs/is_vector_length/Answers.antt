@@ -2,7 +2,6 @@
 -- Assumes nothing.
 use mathlib.Core.Path.{sym}
 use native.Mathlib.Omega.{arith}
-use borrow.Author.Rules.{rules}
 use Rattle.settings.proofs.SettingsLaws.{vector_length_bounds, vector_length_power}
 use Rattle.settings.proofs.is_vector_length.Goals as goal
 

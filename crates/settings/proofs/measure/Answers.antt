@@ -2,8 +2,6 @@
 -- Assumes nothing.
 use mathlib.Core.Path.{◌≡◌, sym, ◌∙◌}
 use mathlib.Core.Bool.{true}
-use borrow.Author.Rules.{rules}
-use borrow.Author.Tests.{not-true, not-false}
 use Rattle.settings.specs.Settings.{valid_vectors}
 use Rattle.settings.proofs.SettingsLaws.{measures_valid, measures_bad}
 use Rattle.settings.proofs.measure.Goals.{Else-not-has_vectors}

@@ -10,7 +10,6 @@ use Rattle.encoding.specs.Word.{bits_at}
 use Rattle.encoding.proofs.TableLaws.{is, isnt}
 use Rattle.encoding.proofs.CodecLaws.{undecodable_as}
 use Rattle.decoder.proofs.DecoderLaws.{access_classifies, size_of_bits}
-use borrow.Author.Rules.{rules}
 use Rattle.decoder.proofs.class.classify_access.Goals.{then-wide-eq1+else-two-ne3, else-wide-eq1, Joined-wide-eq1}
 use Rattle.decoder.proofs.class.classify_access.Goals as goal
 

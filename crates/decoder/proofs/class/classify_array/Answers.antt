@@ -8,7 +8,6 @@ use Rattle.encoding.specs.declared.operation.RegisterCount.TheVariants.{Two, Fou
 use Rattle.encoding.proofs.TableLaws.{is, isnt}
 use Rattle.encoding.proofs.CodecLaws.{undecodable_as}
 use Rattle.decoder.proofs.DecoderLaws.{array_too_low, array_classifies}
-use borrow.Author.Rules.{rules}
 use Rattle.decoder.proofs.class.classify_array.Goals as goal
 
 pub returns-then-word-ne1 : goal.returns-then-word-ne1

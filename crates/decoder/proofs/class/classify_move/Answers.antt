@@ -12,7 +12,6 @@ use Rattle.encoding.specs.Word.{bits_at}
 use Rattle.encoding.proofs.TableLaws.{is, isnt}
 use Rattle.encoding.proofs.CodecLaws.{undecodable_as}
 use Rattle.decoder.proofs.DecoderLaws.{size_of_bits, six_bits}
-use borrow.Author.Rules.{rules}
 use Rattle.decoder.proofs.class.classify_move.Goals.{then-wide-eq1+else-two-ne3, else-wide-eq1, Joined-wide-eq1, After-size_in-size}
 use Rattle.decoder.proofs.class.classify_move.Goals as goal
 

@@ -1,6 +1,5 @@
 -- `decoder::fields::predicated_in` meets its contract: each field is cut out of the word.
 -- Assumes nothing.
-use borrow.Author.Rules.{rules}
 use Rattle.decoder.proofs.fields.predicated_in.Goals as goal
 
 pub returns : goal.returns

@@ -5,7 +5,6 @@ use native.Mathlib.Omega.{arith}
 use lib.Bits.{and_le_r}
 use lib.Pow.{shr_le}
 use Rattle.decoder.proofs.DecoderLaws.{high_bits, low_bits_masked}
-use borrow.Author.Rules.{rules}
 use Rattle.decoder.proofs.fields.slice_in.Goals as goal
 
 pub overflow_cast-result-2 : goal.overflow_cast-result-2

@@ -1,16 +1,12 @@
 -- `moves::apart::copy_apart` meets its contract: after e turns the first e elements are copied.
 -- Assumes nothing.
-use borrow.Author.Rules.{rules}
 use mathlib.Core.Path.{refl, ap}
-use Prim.Native.Nat.{ℕ, ◌*◌, ◌-◌, ◌≤◌}
+use Prim.Native.Nat.{ℕ}
 use native.Mathlib.Omega.{arith}
 use lib.ListN.{get_or}
 use Rattle.tiles.specs.Element.{bytes_of}
-use Rattle.general.specs.Scatter.{all}
-use Rattle.tiles.specs.Span.{span_at}
 use Rattle.tiles.proofs.SpanLaws.{strided_element}
-use Rattle.moves.specs.Paired.{value_at}
-use Rattle.moves.proofs.BlockLaws.{WrittenTo, written_none, written_block, written_end}
+use Rattle.moves.proofs.BlockLaws.{written_none, written_block, written_end}
 use Rattle.moves.proofs.SpanLaws.{reads}
 use Rattle.moves.proofs.apart.copy_apart.Goals as goal
 

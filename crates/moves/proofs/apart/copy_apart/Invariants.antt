@@ -1,17 +1,11 @@
 -- `moves::apart::copy_apart` meets its contract: after e turns the first e elements are copied.
 -- Assumes nothing.
-use borrow.Author.Rules.{rules}
-use mathlib.Core.Path.{refl, ap}
-use Prim.Native.Nat.{ℕ, ◌*◌, ◌-◌, ◌≤◌}
-use native.Mathlib.Omega.{arith}
-use lib.ListN.{get_or}
+use Prim.Native.Nat.{◌*◌, ◌-◌, ◌≤◌}
 use Rattle.tiles.specs.Element.{bytes_of}
 use Rattle.general.specs.Scatter.{all}
 use Rattle.tiles.specs.Span.{span_at}
-use Rattle.tiles.proofs.SpanLaws.{strided_element}
 use Rattle.moves.specs.Paired.{value_at}
-use Rattle.moves.proofs.BlockLaws.{WrittenTo, written_none, written_block, written_end}
-use Rattle.moves.proofs.SpanLaws.{reads}
+use Rattle.moves.proofs.BlockLaws.{WrittenTo}
 use Rattle.moves.proofs.apart.copy_apart.Given as goal
 
 abbrev pub invariant-loop-e : goal.invariant-loop-e

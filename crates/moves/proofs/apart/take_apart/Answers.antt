@@ -1,16 +1,12 @@
 -- `moves::apart::take_apart` meets its contract: after e turns e elements are copied and zero where they were; those to come are as they were.
 -- Assumes nothing.
-use borrow.Author.Rules.{rules}
 use mathlib.Core.Path.{refl, sym}
-use Prim.Native.Nat.{◌+◌, ◌*◌, ◌-◌, ◌≤◌}
+use Prim.Native.Nat.{◌+◌, ◌*◌}
 use native.Mathlib.Omega.{arith}
 use lib.ListN.{get_or, get_or-replicate}
 use Rattle.tiles.specs.Element.{bytes_of}
-use Rattle.general.specs.Scatter.{all, zeros}
-use Rattle.tiles.specs.Span.{span_at}
 use Rattle.tiles.proofs.SpanLaws.{strided_element}
-use Rattle.moves.specs.Paired.{value_at}
-use Rattle.moves.proofs.BlockLaws.{WrittenTo, written_none, written_block, written_end}
+use Rattle.moves.proofs.BlockLaws.{written_none, written_block, written_end}
 use Rattle.moves.proofs.SpanLaws.{reads, bytes_of_range, cleared_later}
 use Rattle.moves.proofs.apart.take_apart.Goals as goal
 

@@ -1,12 +1,7 @@
 -- `moves::bytes::clear_bytes` meets its contract: after i turns the first i bytes are zero.
 -- Assumes nothing.
-use borrow.Author.Rules.{rules}
-use mathlib.Core.Path.{refl}
 use Prim.Native.Nat.{◌-◌, ◌≤◌}
-use native.Mathlib.Omega.{arith}
-use lib.ListN.{length-set}
 use Rattle.general.specs.Scatter.{all, zeros, onwards}
-use Rattle.general.proofs.ScatterLaws.{scatter_none, scatter_more, scatter_end}
 use Rattle.moves.proofs.BlockLaws.{WrittenTo}
 use Rattle.moves.proofs.bytes.clear_bytes.Given as goal
 

@@ -1,13 +1,9 @@
 -- `moves::bytes::copy_bytes` meets its contract: after i turns the first i bytes are copied.
 -- Assumes nothing.
-use borrow.Author.Rules.{rules}
 use mathlib.Core.Path.{refl}
-use Prim.Native.Nat.{ℕ, ◌+◌, ◌-◌, ◌≤◌}
 use native.Mathlib.Omega.{arith}
-use lib.ListN.{get_or, length-set}
-use Rattle.general.specs.Scatter.{all, onwards}
+use lib.ListN.{length-set}
 use Rattle.general.proofs.ScatterLaws.{scatter_none, scatter_more, scatter_end}
-use Rattle.moves.proofs.BlockLaws.{WrittenTo}
 use Rattle.moves.proofs.bytes.copy_bytes.Goals as goal
 
 pub loop-i-init : goal.loop-i-init

@@ -1,12 +1,8 @@
 -- `moves::bytes::copy_bytes` meets its contract: after i turns the first i bytes are copied.
 -- Assumes nothing.
-use borrow.Author.Rules.{rules}
-use mathlib.Core.Path.{refl}
 use Prim.Native.Nat.{ℕ, ◌+◌, ◌-◌, ◌≤◌}
-use native.Mathlib.Omega.{arith}
-use lib.ListN.{get_or, length-set}
+use lib.ListN.{get_or}
 use Rattle.general.specs.Scatter.{all, onwards}
-use Rattle.general.proofs.ScatterLaws.{scatter_none, scatter_more, scatter_end}
 use Rattle.moves.proofs.BlockLaws.{WrittenTo}
 use Rattle.moves.proofs.bytes.copy_bytes.Given as goal
 

@@ -1,6 +1,5 @@
 -- `moves::bytes::copy_vector` meets its contract: the array between the two copies holds the bytes of the source.
 -- Assumes nothing.
-use borrow.Author.Rules.{rules}
 use mathlib.Core.Path.{◌∙◌}
 use Prim.Native.Nat.{◌+◌}
 use native.Mathlib.Omega.{arith}

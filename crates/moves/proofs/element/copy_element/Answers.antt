@@ -1,6 +1,5 @@
 -- `moves::element::copy_element` meets its contract: each arm copies as many bytes as its size has.
 -- Assumes nothing.
-use borrow.Author.Rules.{rules}
 use native.Mathlib.Omega.{arith}
 use Rattle.moves.proofs.element.copy_element.Goals as goal
 

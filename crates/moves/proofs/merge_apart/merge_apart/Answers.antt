@@ -1,17 +1,11 @@
 -- `moves::merge_apart::merge_apart` meets its contract: after g turns the elements of g groups are written or kept, and those of a predicate
 -- byte that is zero passed over.
 -- Assumes nothing.
-use borrow.Author.Rules.{rules}
-use mathlib.Core.Path.{◌≡◌, sym, ◌∙◌}
-use mathlib.Core.Bool.{cond, ◌||◌}
-use mathlib.Core.Logic.{⊎_elim}
-use Prim.Native.Nat.{ℕ, ◌*◌, ◌-◌, ◌<◌, ◌≤◌}
+use mathlib.Core.Path.{sym, ◌∙◌}
+use Prim.Native.Nat.{◌*◌, ◌<◌}
 use native.Mathlib.Nat.{div-add-mod'}
 use native.Mathlib.Omega.{arith}
-use Rattle.tiles.specs.Predicate.{active}
-use Rattle.tiles.specs.Span.{span_at}
-use Rattle.moves.specs.Paired.{value_at}
-use Rattle.moves.proofs.BlockLaws.{WrittenTo, written_none, written_end}
+use Rattle.moves.proofs.BlockLaws.{written_none, written_end}
 use Rattle.moves.proofs.SpanLaws.{reads}
 use Rattle.moves.proofs.GroupLaws.{group_small, groups_whole, groups_few, group_index, group_first, part_paired, group_merged, group_passed}
 use Rattle.moves.proofs.merge_apart.merge_apart.Goals.{Then-are_written, then-are_written, else-are_written}
@@ -73,8 +67,8 @@ loop-g-preserved c =
     let h = c.requires in
     let l = c.loop-g in
     elim c.if-are_written.branch [
-      then-are_written w ↦ (omega arith, l.invariant.1, rw w.dst-is (group_merged a.m a.per h.2 a.zeroing a.p.now a.src.now a.to a.from a.dst.now l.g l.invariant.2 (rw (w.part.ensures, w.part-then-are_written.ensures) at w.merge_few.ensures)))
-    | else-are_written w ↦ (omega arith, l.invariant.1, rw w.dst-is (group_passed a.m a.per h.2 a.zeroing a.p.now a.src.now a.to a.from a.dst.now l.g l.invariant.2 (sym c.are_written.ensures ∙ w.if-are_written.false)))
+      | then-are_written w ↦ (omega arith, l.invariant.1, rw w.dst-is (group_merged a.m a.per h.2 a.zeroing a.p.now a.src.now a.to a.from a.dst.now l.g l.invariant.2 (rw (w.part.ensures, w.part-then-are_written.ensures) at w.merge_few.ensures)))
+      | else-are_written w ↦ (omega arith, l.invariant.1, rw w.dst-is (group_passed a.m a.per h.2 a.zeroing a.p.now a.src.now a.to a.from a.dst.now l.g l.invariant.2 (sym c.are_written.ensures ∙ w.if-are_written.false)))
     ]
 
 pub returns : goal.returns

@@ -1,19 +1,13 @@
 -- `moves::merge_apart::merge_apart` meets its contract: after g turns the elements of g groups are written or kept, and those of a predicate
 -- byte that is zero passed over.
 -- Assumes nothing.
-use borrow.Author.Rules.{rules}
-use mathlib.Core.Path.{◌≡◌, sym, ◌∙◌}
+use mathlib.Core.Path.{◌≡◌}
 use mathlib.Core.Bool.{cond, ◌||◌}
-use mathlib.Core.Logic.{⊎_elim}
-use Prim.Native.Nat.{ℕ, ◌*◌, ◌-◌, ◌<◌, ◌≤◌}
-use native.Mathlib.Nat.{div-add-mod'}
-use native.Mathlib.Omega.{arith}
+use Prim.Native.Nat.{ℕ, ◌*◌, ◌-◌, ◌≤◌}
 use Rattle.tiles.specs.Predicate.{active}
 use Rattle.tiles.specs.Span.{span_at}
 use Rattle.moves.specs.Paired.{value_at}
-use Rattle.moves.proofs.BlockLaws.{WrittenTo, written_none, written_end}
-use Rattle.moves.proofs.SpanLaws.{reads}
-use Rattle.moves.proofs.GroupLaws.{group_small, groups_whole, groups_few, group_index, group_first, part_paired, group_merged, group_passed}
+use Rattle.moves.proofs.BlockLaws.{WrittenTo}
 use Rattle.moves.proofs.merge_apart.merge_apart.Given as goal
 
 abbrev pub invariant-loop-g : goal.invariant-loop-g

@@ -1,13 +1,8 @@
 -- `moves::merge_apart::merge_few` meets its contract: after j turns j elements are written or kept.
 -- Assumes nothing.
-use borrow.Author.Rules.{rules}
-use mathlib.Core.Bool.{cond, ◌||◌}
-use Prim.Native.Nat.{ℕ, ◌*◌, ◌-◌, ◌≤◌}
 use native.Mathlib.Omega.{arith}
-use Rattle.tiles.specs.Span.{span_at}
 use Rattle.tiles.proofs.SpanLaws.{strided_element}
-use Rattle.moves.specs.Paired.{value_at, set_in}
-use Rattle.moves.proofs.BlockLaws.{WrittenTo, written_none, written_block, written_end}
+use Rattle.moves.proofs.BlockLaws.{written_none, written_block, written_end}
 use Rattle.moves.proofs.SpanLaws.{reads}
 use Rattle.moves.proofs.GroupLaws.{set_in-element}
 use Rattle.moves.proofs.merge_apart.merge_few.Goals as goal

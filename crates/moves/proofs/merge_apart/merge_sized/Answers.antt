@@ -1,6 +1,5 @@
 -- `moves::merge_apart::merge_sized` meets its contract: all elements at once, or each size as many to a predicate byte as fit.
 -- Assumes nothing.
-use borrow.Author.Rules.{rules}
 use Rattle.tiles.specs.declared.element.ElementSize.TheVariants.{Bits8, Bits16, Bits32, Bits64, Bits128}
 use Rattle.moves.proofs.GroupLaws.{size_grouped, size_whole}
 use Rattle.moves.proofs.SpanLaws.{full_merged}

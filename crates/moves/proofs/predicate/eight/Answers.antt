@@ -1,6 +1,5 @@
 -- `moves::predicate::eight` meets its contract: every byte is below 256, so that no sum of them is too large.
 -- Assumes nothing.
-use borrow.Author.Rules.{rules}
 use native.Mathlib.Nat.{add-zero}
 use native.Mathlib.Omega.{arith}
 use Rattle.general.specs.Number.{number}

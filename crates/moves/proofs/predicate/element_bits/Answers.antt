@@ -1,6 +1,5 @@
 -- `moves::predicate::element_bits` meets its contract: the number of each size is computed.
 -- Assumes nothing.
-use borrow.Author.Rules.{rules}
 use Rattle.general.specs.Number.{number}
 use Rattle.moves.proofs.predicate.element_bits.Goals as goal
 

@@ -1,14 +1,10 @@
 -- `moves::predicate::is_full` meets its contract: after g turns g eights have all bits that elements go by.
 -- Assumes nothing.
-use borrow.Author.Rules.{rules}
-use mathlib.Core.Path.{◌≡◌}
 use mathlib.Core.Bool.{false≢true}
-use Prim.Native.Nat.{ℕ, ◌*◌, ◌-◌, ◌/◌, ◌<◌, ◌≤◌}
+use Prim.Native.Nat.{◌/◌, ◌<◌}
 use native.Mathlib.Omega.{arith}
-use lib.Bits.{bit_and}
 use lib.ListN.{length}
 use borrow.Author.Tests.{ltb-true}
-use Rattle.moves.specs.Eights.{eight_at}
 use Rattle.moves.proofs.EightLaws.{eights_more, eights_active}
 use Rattle.moves.proofs.predicate.is_full.Goals as goal
 

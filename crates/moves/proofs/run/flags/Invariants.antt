@@ -1,15 +1,12 @@
 -- `moves::run::flags` meets its contract: after i turns the first i flags are made.
 -- Assumes nothing.
-use borrow.Author.Rules.{rules}
-use mathlib.Core.Path.{◌≡◌, refl}
+use mathlib.Core.Path.{◌≡◌}
 use Prim.Native.Nat.{ℕ, ◌+◌, ◌-◌, ◌/◌, ◌≤◌}
-use native.Mathlib.Omega.{arith}
 use lib.Bits.{bit_and}
-use lib.ListN.{length, get_or, length-set}
+use lib.ListN.{length, get_or}
 use Rattle.general.specs.Scatter.{all}
-use Rattle.general.proofs.ScatterLaws.{scatter_none, scatter_more, scatter_end}
 use Rattle.moves.proofs.BlockLaws.{WrittenTo}
-use Rattle.moves.proofs.PartLaws.{each, each_filled}
+use Rattle.moves.proofs.PartLaws.{each}
 use Rattle.moves.proofs.run.flags.Given as goal
 
 abbrev pub invariant-loop-i : goal.invariant-loop-i

@@ -1,6 +1,5 @@
 -- `moves::run::masks` meets its contract: the row that the size names has its masks, which is a computed test of the table.
 -- Assumes nothing.
-use borrow.Author.Rules.{rules}
 use native.Mathlib.Omega.{arith}
 use Rattle.moves.proofs.MaskLaws.{masks_in_table, row_below}
 use Rattle.moves.proofs.run.masks.Goals as goal

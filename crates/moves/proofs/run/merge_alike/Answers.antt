@@ -1,6 +1,5 @@
 -- `moves::run::merge_alike` meets its contract: no bit, all bits, or some; nothing is merged where it says no.
 -- Assumes nothing.
-use borrow.Author.Rules.{rules}
 use mathlib.Core.Path.{refl, sym, ap, ◌∙◌}
 use mathlib.Core.Bool.{false≢true}
 use lib.ListN.{length}

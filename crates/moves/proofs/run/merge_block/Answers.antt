@@ -1,7 +1,5 @@
 -- `moves::run::merge_block` meets its contract: where eight predicate bytes are not alike nothing is merged yet.
 -- Assumes nothing.
-use borrow.Author.Rules.{rules}
-use borrow.Author.Tests.{not-true, not-false}
 use mathlib.Core.Path.{ap, ◌∙◌}
 use native.Mathlib.Omega.{arith}
 use Rattle.moves.specs.Mask.{merged_by}

@@ -1,14 +1,9 @@
 -- `moves::run::merge_blocks` meets its contract: before each turn what goes by the predicate bytes up to `first` is merged.
 -- Assumes nothing.
-use mathlib.Core.Path.{◌≡◌, refl, ◌∙◌}
-use Prim.Native.Nat.{◌-◌, ◌%◌, ◌≤◌}
+use mathlib.Core.Path.{refl, ◌∙◌}
 use native.Mathlib.Nat.{zero-add, le_antisymm}
 use native.Mathlib.Omega.{arith}
-use lib.ListN.{length}
 use Rattle.general.proofs.ScatterLaws.{scatter_none}
-use Rattle.tiles.specs.declared.element.ElementSize.{ElementSize}
-use Rattle.moves.specs.Eights.{eight_bits}
-use Rattle.moves.specs.Mask.{GoesBy, merged_by}
 use Rattle.moves.proofs.RunLaws.{merged_more}
 use Rattle.moves.proofs.run.merge_blocks.Goals as goal
 

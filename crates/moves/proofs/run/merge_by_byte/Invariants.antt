@@ -1,15 +1,10 @@
 -- `moves::run::merge_by_byte` meets its contract: after j turns what goes by j predicate bytes is merged, by whichever size the masks are of.
 -- Assumes nothing.
-use borrow.Author.Rules.{rules}
-use mathlib.Core.Path.{◌≡◌, refl, ◌∙◌}
-use Prim.Native.Nat.{◌+◌, ◌-◌, ◌≤◌}
-use native.Mathlib.Nat.{le_antisymm}
-use native.Mathlib.Omega.{arith}
-use lib.ListN.{length, get_or}
-use Rattle.general.proofs.ScatterLaws.{scatter_none}
+use mathlib.Core.Path.{◌≡◌}
+use Prim.Native.Nat.{◌-◌, ◌≤◌}
+use lib.ListN.{length}
 use Rattle.tiles.specs.declared.element.ElementSize.{ElementSize}
 use Rattle.moves.specs.Mask.{GoesBy, merged_by}
-use Rattle.moves.proofs.RunLaws.{and_again, merged_more, merged_byte}
 use Rattle.moves.proofs.run.merge_by_byte.Given as goal
 
 abbrev pub invariant-loop-j : goal.invariant-loop-j

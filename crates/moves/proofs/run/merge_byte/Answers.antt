@@ -1,6 +1,5 @@
 -- `moves::run::merge_byte` meets its contract: all bits, some, or none.
 -- Assumes nothing.
-use borrow.Author.Rules.{rules}
 use mathlib.Core.Path.{refl, sym, ap, ◌∙◌}
 use Prim.Native.Nat.{ℕ}
 use lib.ListN.{length}

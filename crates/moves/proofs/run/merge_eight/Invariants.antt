@@ -1,15 +1,12 @@
 -- `moves::run::merge_eight` meets its contract: after i turns the first i bytes are chosen; then all are written.
 -- Assumes nothing.
 use mathlib.Core.Bool.{cond}
-use borrow.Author.Rules.{rules}
-use mathlib.Core.Path.{◌≡◌, refl, ◌∙◌}
+use mathlib.Core.Path.{◌≡◌}
 use Prim.Native.Nat.{ℕ, ◌+◌, ◌-◌, ◌≤◌}
-use native.Mathlib.Omega.{arith}
-use lib.ListN.{length, get_or, length-set}
+use lib.ListN.{length, get_or}
 use Rattle.general.specs.Scatter.{all}
-use Rattle.general.proofs.ScatterLaws.{scatter_none, scatter_more, scatter_end}
 use Rattle.moves.proofs.BlockLaws.{WrittenTo}
-use Rattle.moves.proofs.PartLaws.{each, scatter_by_part, scatter_picked}
+use Rattle.moves.proofs.PartLaws.{each}
 use Rattle.moves.specs.Mask.{masked}
 use Rattle.moves.proofs.run.merge_eight.Given as goal
 

@@ -1,15 +1,11 @@
 -- `moves::run::merge_mixed` meets its contract: after j turns what goes by 2 j predicate bytes is merged, by whichever size the masks are of.
 -- Assumes nothing.
-use borrow.Author.Rules.{rules}
-use mathlib.Core.Path.{◌≡◌, refl, ap, ◌∙◌}
-use Prim.Native.Nat.{◌+◌, ◌*◌, ◌-◌, ◌≤◌}
+use mathlib.Core.Path.{refl, ap, ◌∙◌}
+use Prim.Native.Nat.{◌+◌, ◌*◌}
 use native.Mathlib.Nat.{le_antisymm}
 use native.Mathlib.Omega.{arith}
 use lib.ListN.{length}
 use Rattle.general.proofs.ScatterLaws.{length-scatter, scatter_none}
-use Rattle.tiles.specs.Element.{bytes_of}
-use Rattle.tiles.specs.declared.element.ElementSize.{ElementSize}
-use Rattle.moves.specs.Mask.{Masks, merged_by}
 use Rattle.moves.proofs.BlockLaws.{block_next}
 use Rattle.moves.proofs.RunLaws.{merged_more, merged_two}
 use Rattle.moves.proofs.run.merge_mixed.Goals as goal

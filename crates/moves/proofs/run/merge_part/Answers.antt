@@ -1,6 +1,5 @@
 -- `moves::run::merge_part` meets its contract: fewer than eight predicate bytes, or eights of them.
 -- Assumes nothing.
-use borrow.Author.Rules.{rules}
 use native.Mathlib.Omega.{arith}
 use Rattle.moves.proofs.run.merge_part.Goals as goal
 

@@ -1,6 +1,5 @@
 -- `moves::run::merge_run` meets its contract: at once, or the parts of both buffers merged and given back.
 -- Assumes nothing.
-use borrow.Author.Rules.{rules}
 use mathlib.Core.Path.{sym, ◌∙◌}
 use Prim.Native.Nat.{◌*◌}
 use native.Mathlib.Omega.{arith}

@@ -1,8 +1,7 @@
 -- `settings::Settings::check` meets its contract.
 -- Assumes nothing.
 use mathlib.Core.Path.{sym, ◌∙◌}
-use borrow.Author.Rules.{rules}
-use borrow.Author.Tests.{le-leb, lt-leb, not-true, not-false}
+use borrow.Author.Tests.{le-leb, lt-leb}
 use Rattle.settings.proofs.SettingsLaws.{checks_valid, checks_bad}
 use Rattle.settings.proofs.Settings.check.Goals as goal
 

@@ -3,8 +3,6 @@
 use mathlib.Core.Path.{◌≡◌, sym, ◌∙◌}
 use mathlib.Core.Bool.{true}
 use native.Mathlib.Omega.{arith}
-use borrow.Author.Rules.{rules}
-use borrow.Author.Tests.{not-true, not-false}
 use Rattle.general.proofs.BoolLaws.{clash}
 use Rattle.settings.specs.Settings.{is_vector_length, stride_of}
 use Rattle.settings.proofs.SettingsLaws.{Vectors, vectors_true, vectors_false, vectors_by_length}

@@ -2,7 +2,6 @@
 -- Assumes nothing.
 use Prim.Native.Nat.{◌≤◌}
 use native.Mathlib.Omega.{arith}
-use borrow.Author.Rules.{rules}
 use Rattle.settings.specs.Settings.{max_vector_bytes}
 use Rattle.settings.proofs.SettingsLaws.{stride_fits, square_small, predicates_twice}
 use Rattle.settings.proofs.Settings.lengths.Goals.{After-stride-stride}

@@ -1,7 +1,6 @@
 -- `settings::Settings::new` meets its contract.
 -- Assumes nothing.
 use mathlib.Core.Path.{sym, ap, ◌∙◌}
-use borrow.Author.Rules.{rules}
 use Rattle.settings.specs.Settings.{valid_settings}
 use Rattle.settings.proofs.SettingsLaws.{checked_valid, checked_bad}
 use Rattle.settings.proofs.Settings.new.Goals as goal

@@ -2,7 +2,6 @@
 -- Assumes nothing.
 use mathlib.Core.Path.{sym}
 use lib.ListN.{get_or-eq_default}
-use borrow.Author.Rules.{rules}
 use Rattle.settings.proofs.LentLaws.{get_or-given}
 use Rattle.settings.proofs.lent.item.Goals as goal
 

@@ -1,7 +1,6 @@
 -- `settings::lent::settings_in` meets its contract.
 -- Assumes nothing.
 use mathlib.Core.Path.{◌∙◌}
-use borrow.Author.Rules.{rules}
 use Rattle.settings.proofs.LentLaws.{settings_given, settings_whole, settings_few, settings_many}
 use Rattle.settings.proofs.lent.settings_in.Goals as goal
 

@@ -1,6 +1,5 @@
 -- `settings::results::put_result` meets its contract.
 -- Assumes nothing.
-use borrow.Author.Rules.{rules}
 use Rattle.settings.proofs.ResultLaws.{set_beyond}
 use Rattle.settings.proofs.results.put_result.Goals as goal
 

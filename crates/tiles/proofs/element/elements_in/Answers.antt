@@ -1,6 +1,5 @@
 -- `tiles::element::elements_in` meets its contract: the shift divides by the bytes of the size.
 -- Assumes nothing.
-use borrow.Author.Rules.{rules}
 use Rattle.tiles.proofs.LengthLaws.{bytes_of_doubled}
 use Rattle.tiles.proofs.element.elements_in.Goals as goal
 

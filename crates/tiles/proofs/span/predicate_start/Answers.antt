@@ -1,6 +1,5 @@
 -- `tiles::span::predicate_start` meets its contract: a stride is at most 256.
 -- Assumes nothing.
-use borrow.Author.Rules.{rules}
 use Prim.Native.Nat.{◌/◌, ◌≤◌}
 use native.Mathlib.Nat.{mul-le-mul}
 use native.Mathlib.Omega.{arith}

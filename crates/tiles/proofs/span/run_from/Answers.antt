@@ -1,6 +1,5 @@
 -- `tiles::span::run_from` meets its contract: what the calls give is what the definition says.
 -- Assumes nothing.
-use borrow.Author.Rules.{rules}
 use Rattle.tiles.proofs.span.run_from.Goals as goal
 
 pub returns : goal.returns

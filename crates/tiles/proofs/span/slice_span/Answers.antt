@@ -1,6 +1,5 @@
 -- `tiles::span::slice_span` meets its contract: the start and the step by direction, from numbers that are those of the definition.
 -- Assumes nothing.
-use borrow.Author.Rules.{rules}
 use mathlib.Core.Path.{◌≡◌, ap, ◌∙◌}
 use Prim.Native.Nat.{◌+◌, ◌*◌, ◌≤◌}
 use native.Mathlib.Omega.{arith}

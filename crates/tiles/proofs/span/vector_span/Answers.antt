@@ -1,6 +1,5 @@
 -- `tiles::span::vector_span` meets its contract: vectors start a stride apart.
 -- Assumes nothing.
-use borrow.Author.Rules.{rules}
 use mathlib.Core.Path.{ap, ◌∙◌}
 use Prim.Native.Nat.{ℕ, ◌*◌}
 use native.Mathlib.Nat.{mul-le-mul}

@@ -1,6 +1,5 @@
 -- `tiles::element::ElementSize::bytes` meets its contract: a byte doubled so often has the size's bytes.
 -- Assumes nothing.
-use borrow.Author.Rules.{rules}
 use Rattle.tiles.proofs.LengthLaws.{bytes_shifted}
 use Rattle.tiles.proofs.element.ElementSize.bytes.Goals as goal
 
