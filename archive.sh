@@ -22,11 +22,16 @@ join() {
 
 case ${1:-} in
 '')
-    cd "$root"
-    rt staticlib sme_listing
-    half=$root/target/staticlib/libsme_move.a
-    rt staticlib sme_move
-    join "$root/target/staticlib"
+    to=$root/target/staticlib
+    mkdir -p "$to"
+    half=$to/libsme_move.a
+    # An archive of an earlier run does not stand for one that is not proved.
+    rm -f "$half" "$to/libsme_listing.a"
+    for crate in sme_listing sme_move; do
+        (cd "$root/crates/$crate" && rt lib)
+        cp "$root/crates/$crate/out/lib$crate.a" "$to/"
+    done
+    join "$to"
     echo 'archive.sh: target/staticlib/libsme_move.a has the function of sme_listing too'
     ;;
 --join)
