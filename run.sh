@@ -23,10 +23,10 @@ need() {
     }
 }
 
-# The crates that the archive is made of, by the lines of crates.txt: a crate, a colon, those that it uses.
+# The crates that the archive is made of, by the lines of crates.txt: a crate, perhaps `staticlib`, a colon, those that it uses.
 crates() {
     awk -F: '
-        !/^#/ && NF > 1 { uses[$1] = $2 }
+        !/^#/ && NF > 1 { split($1, words, " "); uses[words[1]] = $2 }
         function take(name, list, i, n) {
             if (name in taken || !(name in uses)) return
             taken[name] = 1
@@ -37,25 +37,22 @@ crates() {
         END { take("sme_move"); take("sme_listing") }' "$root/crates.txt"
 }
 
-# Reads what the prover prints, and tells of each crate that is done and how many are left. Crates that both objects of the
-# archive have are printed twice.
+# Reads what the prover prints, and tells of each crate that is done and how many are left. A crate whose proofs stand from an
+# earlier run is not printed.
 progress() {
-    local line name left
+    local line name='' left
     local -A told=()
     left=$(crates | wc -l)
     while IFS= read -r line; do
         case $line in
-        'rt: target/staticlib/lib'*)
-            name=${line#rt: target/staticlib/lib}
-            name=${name%%.*}
+        'rt: chose --jobs '*' for '*)
+            name=${line##* }
+            continue
             ;;
-        'rt: '*' proved ('*)
-            name=${line#rt: }
-            name=${name%% *}
-            ;;
+        'logic=proved '*) ;;
         *) continue ;;
         esac
-        [ -z "${told[$name]:-}" ] || continue
+        { [ -n "$name" ] && [ -z "${told[$name]:-}" ]; } || continue
         told[$name]=1
         left=$((left - 1))
         echo "run.sh: $name proved, $left left" >&2
@@ -93,7 +90,9 @@ if [ -n "${SME_MOVE_LIB_DIR:-}" ]; then
     rm -f "$own"
     build
 else
-    fresh "$archive" "$root/crates" "$root/crates.txt" "$root/archive.sh" || prove
+    # Out of crates/ only what a checkout has: checks leave their work in crates/NAME/out.
+    made_of=("$root/crates.txt" "$root/archive.sh" "$root"/crates/*/src "$root"/crates/*/specs "$root"/crates/*/proofs)
+    fresh "$archive" "${made_of[@]}" || prove
     sources=("$root/rust/runner" "$root/rust/sme_move" "$root/rust/Cargo.toml" "$archive")
     if [ ! -e "$runner" ] || ! fresh "$own" "$runner" "${sources[@]}"; then
         build

@@ -15,6 +15,7 @@ use Rattle.settings.specs.Settings.{valid_vectors, valid_settings, lengths_of, l
 use Rattle.settings.specs.Lent.{settings_in}
 use Rattle.settings.specs.Results.{filled}
 use Rattle.settings.specs.declared.Settings.{Settings}
+use Rattle.settings.proofs.ResultLaws.{results_fill}
 use Rattle.settings.proofs.Claims.{vectors_fit, passed, failed, lent_settings}
 use Rattle.encoding.specs.Codec.{decode_answer, encode_answer}
 use Rattle.encoding.proofs.AnswerLaws.{decode_answered, encode_answered}
@@ -105,6 +106,7 @@ no_machine s e f = record {
 pub exports_all_determine : ExportsAllDetermine
 exports_all_determine = record {
   executes = exports_determine;
+  results = results_fill;
   decodes = decode_exports_determine;
   encodes = encode_exports_determine;
   lengths = length_exports_determine;

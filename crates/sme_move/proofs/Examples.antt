@@ -26,6 +26,8 @@ pub export_examples_hold : ExportExamplesHold
 unfolding is_vector_length table row_of_word row_of_numbers decode_answer encode_answer decode_of least active access_answer answer_of execute_of
 export_examples_hold = record {
   version_is = refl;
+  listing_version_is = refl;
+  results = refl;
   no_place = gives (given_za 1) _ _ _ refl;
   one_place = gives (given_za 1) _ _ _ refl;
   places = gives (given_za 1) _ _ _ refl;

@@ -7,7 +7,7 @@ use Rattle.settings.specs.Answer.{nth_value}
 use Rattle.settings.specs.Settings.{check_number}
 use Rattle.settings.specs.Lent.{settings_in}
 use Rattle.settings.specs.Results.{filled}
-use Rattle.settings.specs.Claims.{Fitting}
+use Rattle.settings.specs.Claims.{Fitting, FilledIs}
 use Rattle.settings.specs.declared.Settings.{Settings}
 use Rattle.encoding.specs.Codec.{decode_answer, encode_answer}
 use Rattle.semantics.specs.State.{State, public_of}
@@ -62,6 +62,7 @@ pub record AnswersNoMachine (s : Settings) : Type 0 where
 
 pub record ExportsAllDetermine : Type 0 where
   pub executes : (s : Settings) (w : ℕ) (t : State) (rs : List ℕ) → ExportsDetermine s w t rs
+  pub results : (ns old : List ℕ) → FilledIs ns old
   pub decodes : (w level : ℕ) (f : List ℕ) → DecodeExportsDetermine w level f
   pub encodes : (f : List ℕ) → EncodeExportsDetermine f
   pub lengths : (s : Settings) (l : List ℕ) → LengthExportsDetermine s l

@@ -1,10 +1,11 @@
 -- The exported promises at literal inputs, each about all results that the promise allows. Worked from 01 §2, §4, §5 and §6. To believe: the literal numbers.
 -- Assumes nothing.
-use Rattle.std.specs.Prelude.{ℕ, ◌≡◌, List, [], ◌∷◌, set, replicate}
+use Rattle.std.specs.Prelude.{ℕ, ◌≡◌, List, [], ◌∷◌, map, set, replicate}
 use Rattle.settings.specs.Lent.{settings_in}
+use Rattle.settings.specs.Results.{filled}
 use Rattle.semantics.specs.State.{State}
 use Rattle.semantics.specs.ExampleBuffers.{state_at, x_with, ones}
-use Rattle.sme_move.specs.Export.{version, Exports, DecodeExports, EncodeExports, LengthExports}
+use Rattle.sme_move.specs.Export.{version, listing_version, Exports, DecodeExports, EncodeExports, LengthExports}
 
 -- asked to execute with these settings and results: the number, the results afterwards
 abbrev pub GivesResults : List ℕ → ℕ → State → List ℕ → List ℕ → Type 0
@@ -31,7 +32,10 @@ abbrev pub GivesLengths : List ℕ → List ℕ → List ℕ → Type 0
 GivesLengths given ls l = (r : ℕ) (ls' : List ℕ) → LengthExports (settings_in given) ls r ls' → r ∷ ls' ≡ l
 
 pub record ExportExamplesHold : Type 0 where
-  pub version_is : version ≡ 9
+  pub version_is : version ≡ 8
+  pub listing_version_is : listing_version ≡ 9
+  -- two results in an array without a place, with one, with two, with more
+  pub results : map (filled (7 ∷ 5 ∷ [])) ([] ∷ (9 ∷ []) ∷ (9 ∷ 8 ∷ []) ∷ (9 ∷ 8 ∷ 6 ∷ []) ∷ []) ≡ [] ∷ (7 ∷ []) ∷ (7 ∷ 5 ∷ []) ∷ (7 ∷ 5 ∷ 6 ∷ []) ∷ []
   -- element 2 has its bytes 2 and 3 outside: the address first, then the element, as far as there are places
   pub no_place : GivesResults (given_za 1) 0xE0820020 short_memory [] (7 ∷ [])
   pub one_place : GivesResults (given_za 1) 0xE0820020 short_memory (9 ∷ []) (7 ∷ 0x100A ∷ [])

@@ -15,7 +15,11 @@ use Rattle.semantics.specs.declared.answer.Executed.{Executed}
 
 -- the version of what is exported: major and minor number
 abbrev pub version : ℕ
-version = 65536 * 0 + 9
+version = 65536 * 0 + 8
+
+-- that of the functions for listings, likewise
+abbrev pub listing_version : ℕ
+listing_version = 65536 * 0 + 9
 
 -- one execution: what executing promises, with the number of its answer, and its results in the host's array
 pub record Exports (s : Settings) (w : ℕ) (t : State) (rs : List ℕ) (r : ℕ) (rs' : List ℕ) (t' : State) : Type 0 where

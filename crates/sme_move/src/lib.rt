@@ -2,13 +2,13 @@
 // and results are arrays with a count, so that a later one changes no function here (docs/DECISIONS.md).
 #![tactic(auto)]
 
-ghost use Rattle.std.specs.Prelude.{◌≡◌};
+ghost use Rattle.std.specs.Prelude.{◌≡◌, set};
 ghost use Rattle.settings.specs.Settings.{check_number};
 ghost use Rattle.settings.specs.Lent.{settings_in};
 ghost use Rattle.semantics.specs.State.{state_of};
 ghost use Rattle.planner.specs.Tile.{tile_of};
 ghost use Rattle.lent_tiles.specs.Lent.{TakesTile, GivesUpTile};
-ghost use Rattle.sme_move.specs.Export.{version, Exports, DecodeExports, EncodeExports, LengthExports};
+ghost use Rattle.sme_move.specs.Export.{version, listing_version, Exports, DecodeExports, EncodeExports, LengthExports};
 
 use encoding::Decoded;
 
@@ -18,35 +18,45 @@ use encoding::Decoded;
 pub extern "C" fn sme_version_0_5() -> u32
     ensures { result ≡ version }
 {
-    9
+    8
 }
 
 #[unsafe(no_mangle)]
 pub extern "C" fn sme_version_0_6() -> u32
     ensures { result ≡ version }
 {
-    9
+    8
 }
 
 #[unsafe(no_mangle)]
 pub extern "C" fn sme_version_0_7() -> u32
     ensures { result ≡ version }
 {
-    9
+    8
 }
 
 #[unsafe(no_mangle)]
 pub extern "C" fn sme_version_0_8() -> u32
     ensures { result ≡ version }
 {
+    8
+}
+
+// That of the functions for listings, which sme_listing has (docs/PORT.md).
+#[unsafe(no_mangle)]
+pub extern "C" fn sme_version_0_9() -> u32
+    ensures { result ≡ listing_version }
+{
     9
 }
 
-#[unsafe(no_mangle)]
-pub extern "C" fn sme_version_0_9() -> u32
-    ensures { result ≡ version }
+// Writes a result where a host's array has a place for it.
+fn put_result(results: &mut [u64], place: usize, number: u64)
+    ensures { results.new ≡ set results.old place number }
 {
-    9
+    if place < results.len() {
+        results[place] = number;
+    }
 }
 
 // Executes one instruction word on the buffers that are lent, and returns the answer's number
@@ -70,8 +80,8 @@ pub extern "C" fn sme_execute_word(
     // Both are known before the tests, which then cost a jump each and not one on each way out.
     let number = answer.number();
     let fault = answer.fault();
-    settings::put_result(results, 0, fault.address);
-    settings::put_result(results, 1, fault.element);
+    put_result(results, 0, fault.address);
+    put_result(results, 1, fault.element);
     number
 }
 

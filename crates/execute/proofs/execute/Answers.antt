@@ -4,7 +4,6 @@ use mathlib.Core.Path.{sym, ◌∙◌}
 use Rattle.semantics.proofs.ExecuteLaws.{buffers_done}
 use Rattle.semantics.specs.declared.answer.Executed.TheVariants.{Done}
 use Rattle.execute.proofs.PerformLaws.{buffers_refuse}
-use borrow.Author.Rules.{rules}
 use Rattle.execute.proofs.execute.Goals as goal
 
 pub perform-requires : goal.perform-requires

@@ -1,6 +1,6 @@
 -- `access::address::first_address` meets its contract.
 -- Assumes nothing.
-use Rattle.std.proofs.Common.{ℕ, ◌+◌, ◌%◌, ◌^◌, ap, ◌∙◌, rules}
+use Rattle.std.proofs.Common.{ℕ, ◌+◌, ◌%◌, ◌^◌, ap, ◌∙◌}
 use Rattle.tiles.specs.Element.{bytes_of}
 use Rattle.semantics.specs.Access.{base_of, address_at}
 use Rattle.access.proofs.AccessLaws.{address_from}

@@ -1,6 +1,6 @@
 -- `access::address::offset_or_zero` meets its contract.
 -- Assumes nothing.
-use Rattle.std.proofs.Common.{arith, rules, eq-eqb, ne_eqb}
+use Rattle.std.proofs.Common.{arith, eq-eqb, ne_eqb}
 use Rattle.access.proofs.address.offset_or_zero.Goals as goal
 
 pub returns-then-rm-eq31 : goal.returns-then-rm-eq31

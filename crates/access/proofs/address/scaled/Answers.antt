@@ -1,6 +1,5 @@
 -- `access::address::scaled` meets its contract: a shift is a product with the size's bytes, modulo 2^64.
 -- Assumes nothing.
-use Rattle.std.proofs.Common.{rules}
 use Rattle.tiles.proofs.LengthLaws.{bytes_of_doubled}
 use Rattle.access.proofs.address.scaled.Goals as goal
 

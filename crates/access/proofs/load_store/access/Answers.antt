@@ -1,6 +1,6 @@
 -- `access::load_store::access` meets its contract: by what was prepared, the whole vector or a window of it is moved.
 -- Assumes nothing.
-use Rattle.std.proofs.Common.{arith, rules}
+use Rattle.std.proofs.Common.{arith}
 use Rattle.access.specs.Promise.{slice_access}
 use Rattle.access.proofs.TransferLaws.{Primed, part_end, store_paired, load_paired, stores_whole, loads_whole, stores_parts, loads_parts, short, window_fits, access_refused}
 use Rattle.access.proofs.load_store.access.Goals.{After-prepare-ready}

@@ -1,6 +1,6 @@
 -- `access::load_store::store_parts` meets its contract: the vector that is read first is as long as the longest.
 -- Assumes nothing.
-use Rattle.std.proofs.Common.{length, ap, ◌∙◌, rules}
+use Rattle.std.proofs.Common.{length, ap, ◌∙◌}
 use Rattle.general.proofs.ScatterLaws.{length-scatter}
 use Rattle.access.specs.Window.{blank}
 use Rattle.access.proofs.WindowLaws.{length-read}

@@ -1,6 +1,6 @@
 -- `access::predicate::element_start` meets its contract: both shifts are by the size's bytes, and what is left fits.
 -- Assumes nothing.
-use Rattle.std.proofs.Common.{◌≡◌, ◌*◌, ◌/◌, ◌%◌, ◌^◌, mod-eq_of_lt, div-mul-le_self, arith, rules}
+use Rattle.std.proofs.Common.{◌≡◌, ◌*◌, ◌/◌, ◌%◌, ◌^◌, mod-eq_of_lt, div-mul-le_self, arith}
 use Rattle.tiles.specs.Element.{bytes_of}
 use Rattle.tiles.proofs.LengthLaws.{bytes_of_doubled}
 use Rattle.access.proofs.predicate.element_start.Goals as goal

@@ -1,9 +1,8 @@
 -- `access::predicate::first_active` meets its contract: no byte that was passed is active.
 -- Assumes nothing.
-use Rattle.std.proofs.Common.{◌≡◌, ℕ, ◌+◌, ◌-◌, ◌*◌, ◌/◌, ◌<◌, ◌≤◌, false, ◌∙◌, arith, rules}
+use Rattle.std.proofs.Common.{◌≡◌, ℕ, ◌-◌, ◌<◌, ◌≤◌, false}
 use Rattle.tiles.specs.Element.{bytes_of}
 use Rattle.tiles.specs.Predicate.{active}
-use Rattle.access.proofs.PredicateLaws.{zero_inactive, passed_more, same_element, element_ends, bit_active, bit_inactive}
 use Rattle.access.proofs.predicate.first_active.Given as goal
 
 abbrev pub invariant-loop-k : goal.invariant-loop-k

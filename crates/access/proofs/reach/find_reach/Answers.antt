@@ -1,6 +1,6 @@
 -- `access::reach::find_reach` meets its contract: the stack check, then the whole vector, then the window and the first fault.
 -- Assumes nothing.
-use Rattle.std.proofs.Common.{◌≡◌, Bool, true, false, sym, ◌∙◌, arith, rules}
+use Rattle.std.proofs.Common.{◌≡◌, Bool, true, false, sym, ◌∙◌, arith}
 use Rattle.settings.proofs.SettingsLaws.{vector_valid}
 use Rattle.tiles.specs.declared.element.ElementSize.TheVariants.{Bits8}
 use Rattle.tiles.proofs.LengthLaws.{whole_elements}

@@ -1,6 +1,5 @@
 -- `access::reach::first_fault` meets its contract: what a window leaves out are two stretches, one after the other.
 -- Assumes nothing.
-use Rattle.std.proofs.Common.{rules}
 use Rattle.tiles.specs.Element.{bytes_of}
 use Rattle.tiles.specs.Predicate.{active}
 use Rattle.access.proofs.FaultLaws.{left_out_first, left_out_second}

@@ -1,6 +1,6 @@
 -- `access::reach::is_stack_bad` meets its contract: the predicate is looked at late, and the switch last.
 -- Assumes nothing.
-use Rattle.std.proofs.Common.{◌%◌, Bool, ◌&&◌, eqb, ap, arith, rules, eq-eqb, ne_eqb}
+use Rattle.std.proofs.Common.{◌%◌, Bool, ◌&&◌, eqb, ap, arith, eq-eqb, ne_eqb}
 use Rattle.tiles.specs.Element.{bytes_of}
 use Rattle.tiles.specs.Predicate.{active}
 use Rattle.general.specs.Least.{least, is_some}

@@ -1,6 +1,6 @@
 -- `access::reach::prepare` meets its contract: each part is what its function gives.
 -- Assumes nothing.
-use Rattle.std.proofs.Common.{arith, rules}
+use Rattle.std.proofs.Common.{arith}
 use Rattle.access.proofs.reach.prepare.Goals as goal
 
 pub slice_span-requires : goal.slice_span-requires

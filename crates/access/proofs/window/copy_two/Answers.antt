@@ -1,6 +1,6 @@
 -- `access::window::copy_two` meets its contract: both stretches are runs of bytes.
 -- Assumes nothing.
-use Rattle.std.proofs.Common.{arith, rules}
+use Rattle.std.proofs.Common.{arith}
 use Rattle.access.proofs.WindowLaws.{bytes_paired, bytes_copied}
 use Rattle.access.proofs.window.copy_two.Goals as goal
 

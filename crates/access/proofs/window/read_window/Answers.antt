@@ -1,6 +1,6 @@
 -- `access::window::read_window` meets its contract: both parts fit.
 -- Assumes nothing.
-use Rattle.std.proofs.Common.{arith, rules}
+use Rattle.std.proofs.Common.{arith}
 use Rattle.access.proofs.window.read_window.Goals as goal
 
 pub copy_two-requires : goal.copy_two-requires

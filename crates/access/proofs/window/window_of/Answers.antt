@@ -1,6 +1,6 @@
 -- `access::window::window_of` meets its contract: the second part begins where addresses go past 2^64.
 -- Assumes nothing.
-use Rattle.std.proofs.Common.{arith, rules}
+use Rattle.std.proofs.Common.{arith}
 use Rattle.access.proofs.WindowLaws.{windowed_here, windowed_past}
 use Rattle.access.proofs.window.window_of.Goals as goal
 

@@ -3,7 +3,6 @@
 use Prim.Native.Nat.{◌≤◌}
 use native.Mathlib.Omega.{arith}
 use Rattle.execute.proofs.MoveLaws.{groups, groups_power, group_list}
-use borrow.Author.Rules.{rules}
 use Rattle.execute.proofs.array.group_of.Goals.{After-selected-first}
 use Rattle.execute.proofs.array.group_of.Goals as goal
 

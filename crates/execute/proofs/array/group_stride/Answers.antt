@@ -1,6 +1,5 @@
 -- `execute::group_stride` meets its contract: each number of registers divides.
 -- Assumes nothing.
-use borrow.Author.Rules.{rules}
 use Rattle.execute.proofs.array.group_stride.Goals as goal
 
 pub returns-in-Two : goal.returns-in-Two

@@ -4,7 +4,6 @@ use mathlib.Core.Path.{◌≡◌, ◌∙◌}
 use native.Mathlib.Omega.{arith}
 use Rattle.encoding.specs.Flat.{registers_of}
 use Rattle.execute.proofs.MoveLaws.{two_registers, first_ready, second_ready, vector_ready, two_taken, one_more}
-use borrow.Author.Rules.{rules}
 use Rattle.execute.proofs.array.take_group.Goals as goal
 
 pub take_vector-requires : goal.take_vector-requires

@@ -3,7 +3,6 @@
 use native.Mathlib.Omega.{arith}
 use Rattle.settings.proofs.SettingsLaws.{vector_length_small, vector_valid}
 use Rattle.execute.proofs.MoveLaws.{vector_paired, vector_apart, vector_copied, vector_taken}
-use borrow.Author.Rules.{rules}
 use Rattle.execute.proofs.array.take_vector.Goals as goal
 
 pub vector_span-to-requires : goal.vector_span-to-requires

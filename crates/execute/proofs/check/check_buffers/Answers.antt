@@ -12,7 +12,6 @@ use Rattle.semantics.specs.declared.answer.Executed.TheVariants.{Done, Refused}
 use Rattle.semantics.specs.Steps.{Sized}
 use Rattle.execute.specs.Promise.{ChecksBuffers}
 use Rattle.execute.proofs.CheckLaws.{lengths_parts, bad_settings_lem, bad_lengths_lem, right_lengths_lem}
-use borrow.Author.Rules.{rules}
 use Rattle.execute.proofs.check.check_buffers.Goals.{In-Valid, After-lengths-lengths}
 use Rattle.execute.proofs.check.check_buffers.Goals as goal
 

@@ -8,7 +8,6 @@ use Rattle.encoding.specs.Steps.{array_move}
 use Rattle.encoding.specs.Word.{bits_at}
 use Rattle.decoder.specs.Steps.{array_in, access_in}
 use Rattle.execute.proofs.PerformLaws.{without_memory, without_z, array_range, access_range, array_done, moves_perform}
-use borrow.Author.Rules.{rules}
 use Rattle.execute.proofs.perform.operate.Goals as goal
 
 pub move_to_tile-requires : goal.move_to_tile-requires

@@ -8,7 +8,6 @@ use Rattle.encoding.specs.declared.operation.Decoded.TheVariants as decoded
 use Rattle.decoder.specs.Steps.{operation_in}
 use Rattle.semantics.specs.declared.answer.Refusal.TheVariants.{Undecodable}
 use Rattle.execute.proofs.PerformLaws.{word_refuses, streaming_off_lem, za_off_lem, performed}
-use borrow.Author.Rules.{rules}
 use Rattle.execute.proofs.perform.perform.Goals.{In-Done}
 use Rattle.execute.proofs.perform.perform.Goals as goal
 

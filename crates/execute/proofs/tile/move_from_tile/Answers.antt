@@ -3,7 +3,6 @@
 use native.Mathlib.Omega.{arith}
 use Rattle.settings.proofs.SettingsLaws.{stride_fits}
 use Rattle.execute.proofs.MoveLaws.{from_slice, predicate_within, register_governed, merged_from, moved_from_tile}
-use borrow.Author.Rules.{rules}
 use Rattle.execute.proofs.tile.move_from_tile.Goals as goal
 
 pub slice_span-from-requires : goal.slice_span-from-requires

@@ -3,7 +3,6 @@
 use native.Mathlib.Omega.{arith}
 use Rattle.settings.proofs.SettingsLaws.{stride_fits}
 use Rattle.execute.proofs.MoveLaws.{to_slice, predicate_within, slice_governed, merged_to, moved_to_tile}
-use borrow.Author.Rules.{rules}
 use Rattle.execute.proofs.tile.move_to_tile.Goals as goal
 
 pub slice_span-to-requires : goal.slice_span-to-requires

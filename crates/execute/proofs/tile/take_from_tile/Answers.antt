@@ -2,7 +2,6 @@
 -- Assumes nothing.
 use native.Mathlib.Omega.{arith}
 use Rattle.execute.proofs.MoveLaws.{from_slice, slice_apart, taken_slice, zeroed_slice, taken_from_tile}
-use borrow.Author.Rules.{rules}
 use Rattle.execute.proofs.tile.take_from_tile.Goals as goal
 
 pub slice_span-from-requires : goal.slice_span-from-requires
