@@ -1,6 +1,6 @@
 -- Two states that agree within B: what is active is the same in both, so is the answer, and each operation writes the same within B.
 -- Assumes nothing.
-use Prim.Native.Nat.{ℕ, ◌+◌, ◌*◌, ◌/◌, ◌%◌, ◌^◌, ◌<◌, ◌≤◌}
+use Prim.Native.Nat.{ℕ, ◌*◌, ◌/◌, ◌%◌, ◌^◌, ◌<◌}
 use mathlib.Core.Path.{◌≡◌, refl, sym, ap, ◌∙◌}
 use mathlib.Core.Bool.{Bool, true, cond, ◌&&◌, not}
 use mathlib.Core.List.{List}
@@ -12,11 +12,11 @@ use lib.ListN.{length, get_or}
 use lib.Seq.{ext_get_or}
 use Rattle.general.specs.Least.{least, is_some}
 use Rattle.general.specs.Scatter.{all, zeros}
-use Rattle.general.specs.Places.{Places, written}
+use Rattle.general.specs.Places.{written}
 use Rattle.general.proofs.LeastLaws.{least_same}
 use Rattle.general.proofs.ScatterLaws.{scatter_both}
 use Rattle.general.proofs.PlaceLaws.{written_length}
-use Rattle.settings.specs.Settings.{valid_vectors, stride_of}
+use Rattle.settings.specs.Settings.{valid_vectors}
 use Rattle.settings.specs.declared.Settings.{Settings}
 use Rattle.settings.proofs.SettingsLaws.{vector_valid}
 use Rattle.tiles.specs.Element.{bytes_of}
@@ -36,7 +36,7 @@ use Rattle.semantics.specs.declared.answer.Executed.{Executed}
 use Rattle.semantics.specs.declared.answer.Refusal.TheVariants.{StreamingOff, ZaOff, StackMisaligned}
 use Rattle.semantics.specs.State.{State, state_of, public_of}
 use Rattle.semantics.specs.Access.{base_of, address_of, in_memory}
-use Rattle.semantics.specs.Effect.{active_under, slice_byte, group_byte, memory_byte, writes_of, slice_value, group_value, register_value, loaded_value, values_of, effect_of}
+use Rattle.semantics.specs.Effect.{active_under, slice_byte, group_byte, memory_byte, writes_of, slice_value, group_value, loaded_value, values_of, effect_of}
 use Rattle.semantics.specs.Execute.{guard, fault_answer, fault_of, faulting, access_active, access_answer, operation_answer, word_answer}
 use Rattle.long_buffers.specs.Within.{AgreeWithin}
 use Rattle.long_buffers.proofs.PlaceLaws.{Inside, slice_inside, group_inside}

@@ -2,7 +2,7 @@
 -- Assumes nothing.
 use Prim.Native.Nat.{ℕ, suc, ◌+◌, ◌*◌, ◌/◌, ◌%◌, ◌<◌, ◌≤◌}
 use mathlib.Core.Path.{◌≡◌, refl, sym, ap, ◌∙◌, subst}
-use mathlib.Core.Bool.{Bool, true, false}
+use mathlib.Core.Bool.{true, false}
 use mathlib.Core.List.{List, [], ◌∷◌}
 use mathlib.Core.Logic.{◌⊎◌, inl, inr, ⊎_elim}
 use native.Mathlib.Nat.{mod-lt, div-add-mod'}
@@ -23,10 +23,9 @@ use Rattle.encoding.proofs.RangeLaws.{decoded_in_range}
 use Rattle.semantics.specs.declared.answer.Executed.{Executed}
 use Rattle.semantics.specs.declared.answer.Executed.TheVariants.{Done, Refused}
 use Rattle.semantics.specs.State.{State, state_of, public_of}
-use Rattle.semantics.specs.Effect.{writes_of, effect_of}
+use Rattle.semantics.specs.Effect.{effect_of}
 use Rattle.semantics.specs.Execute.{buffers_answer, word_answer, answer_of, if_done, execute_of}
 use Rattle.semantics.specs.Run.{Ran, one_more, run_of}
-use Rattle.semantics.specs.Claims.{Untouched}
 use Rattle.semantics.proofs.ExecuteLaws.{settings_facts, refused_not_done, Ends, does, stays, ends, does_operation}
 use Rattle.semantics.proofs.EffectLaws.{effect_keeps, effect_leaves_others}
 use Rattle.long_buffers.specs.Within.{SameByte, BeyondStays, NothingBetween, AgreeWithin, GoesByWithin, RunGoesByWithin, ExecutionKeepsBeyond, RunKeepsBeyond, ExecutionsGoByWithin, RunsGoByWithin}

@@ -2,21 +2,18 @@
 -- Assumes nothing.
 use Prim.Native.Nat.{ℕ, zero, suc, ◌+◌, ◌*◌, ◌/◌, ◌%◌, ◌<◌, ◌≤◌}
 use mathlib.Core.Path.{◌≡◌, refl, sym, ap, ◌∙◌}
-use mathlib.Core.Bool.{true, cond, ◌&&◌, and-false}
-use mathlib.Core.List.{List}
+use mathlib.Core.Bool.{cond, ◌&&◌, and-false}
 use native.Mathlib.Nat.{zero-add}
 use native.Mathlib.Omega.{arith}
 use lib.Arith.{digits_lt, digits_div, digits_mod}
 use lib.Dec.{ltb}
 use lib.ListN.{length, get_or}
 use borrow.Author.Tests.{lt-ltb, le-ltb}
-use Rattle.settings.specs.Settings.{valid_vectors, stride_of}
-use Rattle.settings.specs.declared.Settings.{Settings}
+use Rattle.settings.specs.Settings.{stride_of}
 use Rattle.settings.proofs.SettingsLaws.{stride_fits, vector_valid}
 use Rattle.tiles.specs.declared.element.ElementSize.TheVariants.{Bits8}
 use Rattle.tiles.proofs.LengthLaws.{whole_elements}
-use Rattle.long_buffers.specs.Within.{AgreeWithin}
-use Rattle.long_buffers.specs.Examples.{numbered, filling, FillingsAgree, FillingsShown}
+use Rattle.long_buffers.specs.Examples.{numbered, FillingsShown}
 
 -- ---- numbered lists
 

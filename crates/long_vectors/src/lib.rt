@@ -1,3 +1,2 @@
 // Worked examples at the two longest vector lengths: no code that a host calls.
 #![tactic(auto)]
-

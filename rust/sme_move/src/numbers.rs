@@ -8,6 +8,7 @@ use crate::settings::Settings;
 const UNWRITTEN: u64 = 0x5A5A_5A5A_5A5A_5A5A;
 
 extern "C" {
+    fn sme_version_0_8() -> u32;
     fn sme_version_0_9() -> u32;
     fn sme_execute_word(
         settings: *const u64,
@@ -66,7 +67,10 @@ extern "C" {
 }
 
 /// The version that this package is written for: 65536 times the major number and the minor one.
-pub const VERSION: u32 = 9;
+pub const VERSION: u32 = 8;
+
+/// That of the functions for listings, likewise.
+pub const LISTING_VERSION: u32 = 9;
 
 /// The version of the archive. It is never less than [`VERSION`]: an older archive has no such function, so that a
 /// program that uses this package does not link with it.
@@ -77,6 +81,12 @@ pub const VERSION: u32 = 9;
 /// assert!(numbers::version() >= numbers::VERSION);
 /// ```
 pub fn version() -> u32 {
+    // SAFETY: a number only.
+    unsafe { sme_version_0_8() }
+}
+
+/// The archive's version of the functions for listings.
+pub fn listing_version() -> u32 {
     // SAFETY: a number only.
     unsafe { sme_version_0_9() }
 }

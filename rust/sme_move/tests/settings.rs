@@ -151,5 +151,10 @@ fn each_item_counts() {
 #[test]
 fn the_archive_has_the_version_of_the_package() {
     assert_eq!(sme_move::numbers::version(), sme_move::numbers::VERSION);
-    assert_eq!(sme_move::numbers::VERSION, 9);
+    assert_eq!(sme_move::numbers::VERSION, 8);
+    assert_eq!(
+        sme_move::numbers::listing_version(),
+        sme_move::numbers::LISTING_VERSION
+    );
+    assert_eq!(sme_move::numbers::LISTING_VERSION, 9);
 }
