@@ -1,7 +1,7 @@
 -- The theorems of specs/Listings.antt, word by word; and the listing that is written out, computed.
 -- Assumes nothing.
-use Prim.Native.Nat.{ℕ, zero, suc, ◌+◌, ◌/◌, ◌%◌, ◌<◌, ◌≤◌, min}
-use mathlib.Core.Path.{◌≡◌, refl, sym, ap, ◌∙◌, subst}
+use Prim.Native.Nat.{ℕ, zero, suc, ◌/◌, ◌<◌, ◌≤◌, min}
+use mathlib.Core.Path.{◌≡◌, refl, sym, ap, ◌∙◌}
 use mathlib.Core.Bool.{Bool, true, false, cond, true≢false}
 use mathlib.Core.List.{List, [], ◌∷◌}
 use native.Mathlib.Nat.{zero-add}
@@ -31,7 +31,7 @@ use Rattle.semantics.specs.Run.{one_more, run_of}
 use Rattle.semantics.proofs.ExecuteLaws.{refused_not_done}
 use Rattle.listing.specs.declared.answer.Listed.{Listed}
 use Rattle.listing.specs.declared.answer.Listed.TheVariants.{BadListing, Ended}
-use Rattle.listing.specs.Words.{word_at, words_from, words_in}
+use Rattle.listing.specs.Words.{word_at, words_from}
 use Rattle.listing.specs.Listing.{ListingOutcome, not_run, ended, buffers_checked, is_whole, allowed_in, listing_of}
 use Rattle.listing.proofs.ListingLaws.{unended}
 use Rattle.listing.proofs.WordLaws.{length-words, words_at, take_words}

@@ -1,3 +1,2 @@
 // Theorems about execution: no code that a host calls.
 #![tactic(auto)]
-

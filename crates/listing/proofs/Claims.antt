@@ -21,7 +21,7 @@ use Rattle.semantics.specs.declared.answer.Executed.{Executed}
 use Rattle.semantics.specs.declared.answer.Executed.TheVariants.{Done, Refused}
 use Rattle.semantics.specs.Answer.{executed_number}
 use Rattle.semantics.specs.State.{State, public_of}
-use Rattle.semantics.specs.Execute.{guard, word_answer, word_effect, answer_of, if_done, Outcome, execute_of}
+use Rattle.semantics.specs.Execute.{word_answer, word_effect, answer_of, if_done, Outcome, execute_of}
 use Rattle.semantics.specs.Run.{Ran, run_of}
 use Rattle.semantics.specs.Claims.{Keeps}
 use Rattle.semantics.proofs.AnswerLaws.{executed_numbers}

@@ -1,24 +1,19 @@
 -- Laws of specs/Claims.antt: a run of words by what was done and what was not, word by word.
 -- Assumes nothing.
-use Prim.Native.Nat.{ℕ, zero, suc, ◌+◌, ◌≤◌}
+use Prim.Native.Nat.{ℕ, suc, ◌+◌}
 use mathlib.Core.Path.{◌≡◌, refl, sym, ap, ◌∙◌, subst}
-use mathlib.Core.Bool.{Bool, true, false}
 use mathlib.Core.List.{List, [], ◌∷◌, ◌++◌}
 use native.Mathlib.Omega.{arith}
 use lib.ListN.{length}
 use Rattle.settings.specs.declared.Settings.{Settings}
-use Rattle.encoding.specs.Codec.{decode_of}
-use Rattle.encoding.specs.declared.operation.Decoded.{Decoded}
-use Rattle.encoding.specs.declared.operation.Decoded.TheVariants as decoded
 use Rattle.semantics.specs.declared.answer.Refusal.{Refusal}
 use Rattle.semantics.specs.declared.answer.Executed.{Executed}
 use Rattle.semantics.specs.declared.answer.Executed.TheVariants.{Done, Refused}
-use Rattle.semantics.specs.Answer.{executed_number}
 use Rattle.semantics.specs.State.{State}
 use Rattle.semantics.specs.Execute.{if_done, execute_of}
 use Rattle.semantics.specs.Run.{Ran, one_more, run_of}
 use Rattle.semantics.specs.Claims.{Keeps}
-use Rattle.semantics.proofs.ExecuteLaws.{SizedAt, Ends, does, stays, ends, refused_not_done}
+use Rattle.semantics.proofs.ExecuteLaws.{Ends, does, stays, ends, refused_not_done}
 use Rattle.semantics.proofs.Claims.{execution_keeps}
 use Rattle.listing.specs.declared.answer.Listed.TheVariants.{Ended}
 use Rattle.listing.specs.declared.answer.ListingRun.{ListingRun}

@@ -2,7 +2,7 @@
 -- Assumes nothing.
 use Prim.Native.Nat.{ℕ}
 use mathlib.Core.Path.{◌≡◌, refl, ap, ◌∙◌}
-use mathlib.Core.List.{List, [], ◌∷◌}
+use mathlib.Core.List.{List, ◌∷◌}
 use Rattle.general.specs.Least.{least}
 use Rattle.general.specs.Number.{number}
 use Rattle.general.specs.Scatter.{scatter}
@@ -22,7 +22,7 @@ use Rattle.listing.specs.Answer.{listed_number, listing_numbers}
 use Rattle.listing.specs.Listing.{listing_of}
 use Rattle.listing.specs.Examples.{start}
 use Rattle.listing.specs.declared.answer.ListingRun.{ListingRun}
-use Rattle.sme_listing.specs.Examples.{GivesResults, given, faults, ListingExportsHold}
+use Rattle.sme_listing.specs.Examples.{GivesResults, given, ListingExportsHold}
 
 -- what the definition gives is all that the promise allows
 gives : (given l : List ℕ) (n : ℕ) (rs : List ℕ) {res : List ℕ} → (let q = (listing_of (settings_in given) l n start).run in listed_number q.answer ∷ filled (listing_numbers q) rs) ≡ res → GivesResults given l n rs res

@@ -4,7 +4,6 @@ use Prim.Native.Nat.{ℕ}
 use mathlib.Core.Path.{◌≡◌, refl, sym, ◌∙◌, ap, subst}
 use mathlib.Core.Bool.{Bool, true, false, cond}
 use mathlib.Core.List.{List, [], ◌∷◌}
-use native.Mathlib.Omega.{arith}
 use lib.ListN.{set}
 use Rattle.settings.specs.Answer.{done, bad_settings, checked_number, Answer}
 use Rattle.settings.specs.Settings.{valid_vectors, Measures}

@@ -1,9 +1,7 @@
 -- `listing::perform_words` meets its contract: before each turn i words are done, and what is left of the run goes on from the state that they left.
 -- Assumes nothing.
-use Prim.Native.Nat.{◌-◌, ◌≤◌}
-use borrow.Author.Rules.{rules}
 use native.Mathlib.Omega.{arith}
-use Rattle.listing.proofs.RunLaws.{Onward, onward_begins, onward_sized, onward_kept, onward_done, onward_refused, onward_ends}
+use Rattle.listing.proofs.RunLaws.{onward_begins, onward_sized, onward_done, onward_refused, onward_ends}
 use Rattle.listing.proofs.perform_words.Goals as goal
 
 pub loop-i-init : goal.loop-i-init
@@ -20,11 +18,10 @@ returns-in_default c =
     onward_refused _ _ _ _ _ _ c.loop-i.invariant.1 _ _ _ c.loop-i-test.true c.word_at-word.ensures c.perform-answer.ensures _ c.in_default.is
 
 pub loop-i-preserved : goal.loop-i-preserved
-loop-i-preserved c =
-    (
-      omega arith,
-      onward_done _ _ _ _ _ _ c.loop-i.invariant.1 _ _ _ c.loop-i-test.true c.word_at-word.ensures c.perform-answer.ensures c.in-Done.is,
-    )
+loop-i-preserved c = (
+  omega arith,
+  onward_done _ _ _ _ _ _ c.loop-i.invariant.1 _ _ _ c.loop-i-test.true c.word_at-word.ensures c.perform-answer.ensures c.in-Done.is,
+)
 
 pub returns : goal.returns
 returns c = onward_ends _ _ _ _ _ _ c.loop-i.invariant.1 c.loop-i.invariant.0 c.loop-i-test.false

@@ -1,11 +1,8 @@
 -- `listing::perform_words` meets its contract: before each turn i words are done, and what is left of the run goes on from the state that they left.
 -- Assumes nothing.
 use Prim.Native.Nat.{◌-◌, ◌≤◌}
-use borrow.Author.Rules.{rules}
-use native.Mathlib.Omega.{arith}
 use Rattle.semantics.specs.State.{state_of}
-use Rattle.semantics.specs.Claims.{Keeps}
-use Rattle.listing.proofs.RunLaws.{Onward, onward_begins, onward_sized, onward_kept, onward_done, onward_refused, onward_ends}
+use Rattle.listing.proofs.RunLaws.{Onward}
 use Rattle.listing.proofs.perform_words.Given as goal
 
 abbrev pub invariant-loop-i : goal.invariant-loop-i

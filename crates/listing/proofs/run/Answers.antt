@@ -1,10 +1,9 @@
 -- `listing::run` meets its contract: settings and lengths come first, then the listing's length, then its words.
 -- Assumes nothing.
-use mathlib.Core.Path.{◌≡◌, sym, ap, ◌∙◌}
+use mathlib.Core.Path.{sym, ap, ◌∙◌}
 use mathlib.Core.Bool.{false}
 use mathlib.Core.List.{List}
 use Prim.Native.Nat.{ℕ}
-use borrow.Author.Rules.{rules}
 use borrow.Author.Tests.{eq-eqb, ne_eqb}
 use native.Mathlib.Omega.{arith}
 use Rattle.semantics.specs.State.{state_of}
@@ -32,11 +31,10 @@ returns-then-listing-ne0 c =
     (length-ends a.settings a.listing.now a.allowance _ false (sym c.check_buffers-checked.ensures.equal ∙ c.in-Done.is) (ne_eqb _ _ c.if-listing-ne0.true))
 
 pub perform_words-requires : goal.perform_words-requires
-perform_words-requires c =
-    (
-      (buffers_done c.args.settings _ _ _ _ _ Done (sym c.check_buffers-checked.ensures.equal ∙ c.in-Done.is)).0,
-      omega (arith, c.allowed_words-n.ensures),
-    )
+perform_words-requires c = (
+  (buffers_done c.args.settings _ _ _ _ _ Done (sym c.check_buffers-checked.ensures.equal ∙ c.in-Done.is)).0,
+  omega (arith, c.allowed_words-n.ensures),
+)
 
 pub returns : goal.returns
 returns c =

@@ -1,6 +1,5 @@
 -- `sme_listing::sme_run_listing` meets its contract.
 -- Assumes nothing.
-use borrow.Author.Rules.{rules}
 use Rattle.sme_listing.proofs.ExportLaws.{fills, listing_exports}
 use Rattle.sme_listing.proofs.sme_run_listing.Goals as goal
 

@@ -1,7 +1,6 @@
 -- `sme_move::sme_check` meets its contract.
 -- Assumes nothing.
 use mathlib.Core.Path.{ap, ◌∙◌}
-use borrow.Author.Rules.{rules}
 use Rattle.settings.specs.Settings.{check_number}
 use Rattle.sme_move.proofs.sme_check.Goals as goal
 

@@ -1,7 +1,6 @@
 -- `sme_move::sme_encode` meets its contract.
 -- Assumes nothing.
 use mathlib.Core.Path.{ap, ◌∙◌}
-use borrow.Author.Rules.{rules}
 use Rattle.settings.specs.Answer.{Answer, nth_value}
 use Rattle.sme_move.proofs.sme_encode.Goals as goal
 

@@ -1,6 +1,5 @@
 -- `sme_move::sme_execute_word` meets its contract.
 -- Assumes nothing.
-use borrow.Author.Rules.{rules}
 use Rattle.sme_move.proofs.ExportLaws.{fills, execute_exports}
 use Rattle.sme_move.proofs.sme_execute_word.Goals as goal
 

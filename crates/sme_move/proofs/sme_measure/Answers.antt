@@ -1,6 +1,5 @@
 -- `sme_move::sme_measure` meets its contract.
 -- Assumes nothing.
-use borrow.Author.Rules.{rules}
 use Rattle.sme_move.proofs.ExportLaws.{lengths_export}
 use Rattle.sme_move.proofs.sme_measure.Goals as goal
 

@@ -1,6 +1,5 @@
 -- `listing::answer::Listed::fault` meets its contract.
 -- Assumes nothing.
-use borrow.Author.Rules.{rules}
 use mathlib.Core.Path.{refl}
 use Rattle.listing.proofs.answer.Listed.fault.Goals as goal
 
