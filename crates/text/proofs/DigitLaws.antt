@@ -1,20 +1,48 @@
 -- Laws of specs/Digits.antt.
 -- Assumes nothing.
-use mathlib.Core.Path.{◌≡◌, refl, ap, ◌∙◌}
-use mathlib.Core.Bool.{true, false, and_false, and-eq-true_iff}
-use mathlib.Core.List.{List}
+use mathlib.Core.Path.{◌≡◌, refl, sym, ap, ◌∙◌}
+use mathlib.Core.Bool.{true, false, and-false, and-eq-true_iff}
+use mathlib.Core.List.{List, [], ◌∷◌}
 use Prim.Native.Nat.{ℕ, zero, suc, ◌+◌, ◌*◌, ◌-◌, ◌/◌, ◌^◌, ◌≤◌, ◌<◌}
 use native.Mathlib.Nat.{one-le-pow, div-lt_iff_lt-mul, le-div_iff_mul-le, zero-add, suc-add, mod-eq_of_lt, pow-suc, pow-le-pow_right, lt_of_lt_of_le}
-use native.Mathlib.Numerals.{sub-one}
-use native.Mathlib.Decide.{dec_le}
+use native.Mathlib.Numerals.{add-one, sub-one}
+use native.Mathlib.Decide.{dec_le, ℕ_discrete as dec_eq}
 use native.Mathlib.Omega.{arith}
 use lib.Dec.{ltb, lit<}
 use lib.ListN.{length, get_or, take, drop}
 use lib.Seq.{take_all}
-use borrow.Author.Tests.{lt-ltb, le-ltb, le-leb, lt-leb, ltb-true}
+use borrow.Author.Tests.{eq-eqb, ne_eqb, lt-ltb, le-ltb, le-leb, lt-leb, ltb-true}
+use Rattle.std.proofs.Common.{Option}
+use Rattle.std.specs.Option.{MatchOption, unwrap_or}
+use Rattle.std.specs.List.{AllWithin, HoldsAt}
+use Rattle.std.proofs.lemmas.Iterator.{index_from_first}
 use Rattle.io.specs.Digits.{last_digits, IsDigitCount}
-use Rattle.text.specs.Digits.{hex_digits, decimal_in, decimal_of, value_of, all_digits, number_read, parse_of}
+use Rattle.text.specs.Digits.{index_of, hex_digits, decimal_in, decimal_of, value_of, all_digits, number_read, parse_of}
 use Rattle.text.specs.declared.digits.Parsed.TheVariants.{Number, Malformed}
+
+-- a search that begins with the first byte finds the index, which is at most the number of bytes
+index_hit : (b x : ℕ) (xs : List ℕ) → x ≡ b → index_of b (x ∷ xs) ≡ 0
+unfolding index_of
+index_hit b x xs h = rw (eq-eqb x b h)
+
+index_miss : (b x : ℕ) (xs : List ℕ) → (x ≡ b → ⊥) → index_of b (x ∷ xs) ≡ index_of b xs + 1
+unfolding index_of
+index_miss b x xs h = rw (ne_eqb x b h) (sym (add-one (index_of b xs)))
+
+index_none : (b : ℕ) → index_of b [] ≡ 0
+unfolding index_of
+index_none b = refl
+
+pub index_of-first : (b : ℕ) (xs : List ℕ) (r : Option ℕ) → MatchOption r (AllWithin (λ x. x ≡ b → ⊥) xs 0 (length xs)) (λ i. (i < length xs) × HoldsAt (λ x. x ≡ b) xs i × AllWithin (λ x. x ≡ b → ⊥) xs 0 i) → index_of b xs ≡ unwrap_or r (length xs)
+index_of-first b xs r h = index_from_first (index_of b) (λ x. x ≡ b) (λ x. x ≡ b → ⊥) (index_none b) (index_hit b) (index_miss b) xs r h
+
+pub index_of-le : (b : ℕ) (xs : List ℕ) → index_of b xs ≤ length xs
+index_of-le b [] = omega (arith, index_none b)
+index_of-le b (x ∷ xs) = by_order (dec_eq x b) (index_of-le b xs)
+  where
+    by_order : Dec (x ≡ b) → index_of b xs ≤ length xs → index_of b (x ∷ xs) ≤ length (x ∷ xs)
+    by_order (yes h) others = omega (arith, index_hit b x xs h)
+    by_order (no h) others = omega (arith, index_miss b x xs h)
 
 -- k digits are k bytes, and the last k are what dropping the others leaves
 hex_digits-length : (k n : ℕ) → length (hex_digits k n) ≡ k
@@ -71,7 +99,7 @@ all_digits-fails ds k (suc n) h bad = by_order (dec_le n k) (λ lt. all_digits-f
     by_order : Dec (n ≤ k) → (k < n → all_digits ds n ≡ false) → all_digits ds (suc n) ≡ false
     by_order (yes le) before =
         let same : k ≡ n = omega arith in
-        rw (← same, le-ltb (value_of (get_or ds k 0)) 16 bad, and_false)
+        rw (← same, le-ltb (value_of (get_or ds k 0)) 16 bad, and-false)
     by_order (no gt) before = rw (before (omega arith))
 
 -- one digit more
@@ -97,7 +125,7 @@ parse_long ds h = rw (lt-leb (length ds) 8 h)
 
 pub parse_bad : (ds : List ℕ) (k : ℕ) → k < length ds → 15 < value_of (get_or ds k 0) → Malformed ≡ parse_of ds
 unfolding parse_of
-parse_bad ds k h bad = rw (all_digits-fails ds k (length ds) h bad, and_false)
+parse_bad ds k h bad = rw (all_digits-fails ds k (length ds) h bad, and-false)
 
 pub parse_good : (ds : List ℕ) → length ds ≤ 8 → all_digits ds (length ds) ≡ true → Number (number_read ds (length ds)) ≡ parse_of ds
 unfolding parse_of

@@ -1,7 +1,6 @@
 -- Numbers as digits. To believe: the bytes of the digits, and that the first digit counts most.
 -- Assumes nothing.
-use Rattle.std.specs.Prelude.{ℕ, zero, suc, ◌+◌, ◌*◌, ◌/◌, ◌%◌, ◌^◌, Bool, true, cond, ◌&&◌, List, [], ◌∷◌, ◌++◌, ltb, leb, length, get_or}
-use Rattle.bytes.specs.Bytes.{index_of}
+use Rattle.std.specs.Prelude.{ℕ, zero, suc, ◌+◌, ◌*◌, ◌/◌, ◌%◌, ◌^◌, Bool, true, cond, ◌&&◌, List, [], ◌∷◌, ◌++◌, eqb, ltb, leb, length, get_or}
 use Rattle.io.specs.Digits.{hex_digit_ascii}
 use Rattle.text.specs.declared.digits.Parsed.{Parsed}
 use Rattle.text.specs.declared.digits.Parsed.TheVariants.{Number, Malformed}
@@ -13,6 +12,11 @@ hex_bytes = 48 ∷ 49 ∷ 50 ∷ 51 ∷ 52 ∷ 53 ∷ 54 ∷ 55 ∷ 56 ∷ 57 �
 -- the digit of n modulo 16
 abbrev pub digit_of : ℕ → ℕ
 digit_of n = get_or hex_bytes (n % 16) 0
+
+-- the index of the first byte that is b, and the number of bytes where none is
+unfoldable pub index_of : ℕ → List ℕ → ℕ
+index_of b [] = 0
+index_of b (x ∷ xs) = cond (eqb x b) 0 (suc (index_of b xs))
 
 -- the value of a digit, 16 for any other byte
 abbrev pub value_of : ℕ → ℕ

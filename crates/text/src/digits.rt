@@ -22,7 +22,7 @@ fn hex_digit(number: u32) -> u8
 fn digit_value(byte: u8) -> u32
     ensures { (result ≡ value_of byte) × (result ≤ 16) }
 {
-    bytes::scan::find(&DIGITS, 0, 16, byte) as u32
+    DIGITS.iter().position(|digit| *digit == byte).unwrap_or(16) as u32
 }
 
 // The eight digits of a number, zeros in front.
