@@ -7,8 +7,8 @@ ghost use Rattle.text.specs.Line.{Puts};
 ghost use Rattle.count_words.specs.Count.{count_of, decode_count, line_of};
 
 use encoding::Decoded;
-use libc::STDOUT_FILENO;
 use settings::Settings;
+use std::io;
 
 // The words that have the same top eight bits.
 const BLOCK: u32 = 16777216;
@@ -57,16 +57,17 @@ fn put_count(line: &mut [u8], level: u64) -> usize
     text::put_byte(line, next, b'\n')
 }
 
-// Writes the line of a level; a write that fails is left at that.
-fn write_count(level: u64) {
+// Writes the line of a level.
+fn write_count(rt: &impl Print, level: u64) -> io::Result<()> {
     let mut line = [0u8; 80];
     let length = put_count(&mut line, level);
-    io::write_all(STDOUT_FILENO, &line[..length]);
+    rt.write_all(&line[..length])
 }
 
 // A line for each level, the lowest first.
-fn main() {
+fn main(rt: HostRuntime) -> io::Result<()> {
     for level in 0..=Settings::MAX_LEVEL {
-        write_count(level);
+        write_count(&rt, level)?;
     }
+    Ok(())
 }

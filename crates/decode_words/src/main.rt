@@ -8,7 +8,8 @@ ghost use Rattle.text.specs.Line.{Puts};
 ghost use Rattle.decode_words.specs.Line.{question_of, numbers_text, operation_text, rest_text, line_of};
 
 use encoding::{Decoded, Operation};
-use libc::{STDIN_FILENO, STDOUT_FILENO};
+use std::io;
+use std::io::Read;
 use text::Parsed;
 
 // What a line asks.
@@ -100,36 +101,42 @@ fn put_answer(line: &mut [u8], word: u32, level: u32) -> usize
     put_rest(line, next, decoded)
 }
 
-// Writes the answer to a word at a level, and returns whether all of it was written. The buffer is
-// large enough: no answer has more than 67 bytes.
-fn write_answer(word: u32, level: u32) -> bool {
+// Writes the answer to a word at a level. The buffer is large enough: no answer has more than 67
+// bytes.
+fn write_answer(rt: &impl Print, word: u32, level: u32) -> io::Result<()> {
     let mut line = [0u8; 80];
     let length = put_answer(&mut line, word, level);
-    io::write_all(STDOUT_FILENO, &line[..length])
+    rt.write_all(&line[..length])
 }
 
 // Reads a line and answers it. Returns whether to go on: not at the end of the input, nor after a
-// refusal or a write that failed.
-fn answer_line() -> bool {
+// refusal. Fails where a read or a write does.
+fn answer_line<R: Read>(rt: &impl Print, input: &mut R) -> io::Result<bool> {
     let mut line = [0u8; 12];
-    let length = io::read_full(STDIN_FILENO, &mut line);
+    let length = text::read_full(input, &mut line)?;
     if length == 0 {
-        return false;
+        return Ok(false);
     }
     match question_in(&line[..length]) {
-        Question::Decode { word, level } => write_answer(word, level),
+        Question::Decode { word, level } => {
+            write_answer(rt, word, level)?;
+            Ok(true)
+        }
         Question::BadLine => {
-            io::write_all(STDOUT_FILENO, b"bad line\n");
-            false
+            rt.write_all(b"bad line\n")?;
+            Ok(false)
         }
     }
 }
 
-// Answers line after line. The turns are counted down from a number that no input uses up, since
-// nothing says that an input ends.
-fn main() {
-    let mut turns = u64::MAX;
-    while turns > 0 && answer_line() {
-        turns -= 1;
+// Answers line after line. The turns are as many as no input uses up, since nothing says that an
+// input ends.
+fn main(rt: HostRuntime) -> io::Result<()> {
+    let mut input = rt.reader();
+    for _ in 0..u64::MAX {
+        if !answer_line(&rt, &mut input)? {
+            break;
+        }
     }
+    Ok(())
 }
