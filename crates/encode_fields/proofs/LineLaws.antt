@@ -2,7 +2,7 @@
 -- Assumes nothing.
 use Prim.Native.Nat.{ℕ}
 use mathlib.Core.Path.{◌≡◌}
-use mathlib.Core.Bool.{and_false}
+use mathlib.Core.Bool.{and-false}
 use mathlib.Core.List.{List}
 use lib.ListN.{length, get_or, take, drop}
 use borrow.Author.Tests.{eq-eqb, ne_eqb}
@@ -19,7 +19,7 @@ question_length l h = rw (ne_eqb (length l) 23 h)
 -- and one with another byte where the newline is to be
 pub question_newline : (l : List ℕ) → (get_or l 22 0 ≡ 10 → ⊥) → BadLine ≡ question_of l
 unfolding question_of
-question_newline l h = rw (ne_eqb (get_or l 22 0) 10 h, and_false)
+question_newline l h = rw (ne_eqb (get_or l 22 0) 10 h, and-false)
 
 -- of any other line the digits decide
 pub question_asked : (l : List ℕ) (first second third : Parsed) → length l ≡ 23 → get_or l 22 0 ≡ 10 → first ≡ parse_of (take 8 l) → second ≡ parse_of (take 8 (drop 8 l)) → third ≡ parse_of (take 6 (drop 16 l)) → question_as first second third ≡ question_of l
