@@ -2,7 +2,7 @@
 -- Assumes nothing.
 use Prim.Native.Nat.{ℕ, ◌+◌, ◌<◌}
 use mathlib.Core.Path.{◌≡◌, refl}
-use mathlib.Core.Bool.{and_false}
+use mathlib.Core.Bool.{and-false}
 use mathlib.Core.List.{List, [], ◌∷◌, ◌++◌, append_assoc, append-nil}
 use native.Mathlib.Numerals.{add-one}
 use lib.ListN.{length, get_or, take, drop}
@@ -22,12 +22,12 @@ question_length l h = rw (ne_eqb (length l) 12 h)
 -- and one with another byte where the space is to be
 pub question_space : (l : List ℕ) → (get_or l 8 0 ≡ 32 → ⊥) → BadLine ≡ question_of l
 unfolding question_of
-question_space l h = rw (ne_eqb (get_or l 8 0) 32 h, and_false)
+question_space l h = rw (ne_eqb (get_or l 8 0) 32 h, and-false)
 
 -- or where the newline is to be
 pub question_newline : (l : List ℕ) → (get_or l 11 0 ≡ 10 → ⊥) → BadLine ≡ question_of l
 unfolding question_of
-question_newline l h = rw (ne_eqb (get_or l 11 0) 10 h, and_false)
+question_newline l h = rw (ne_eqb (get_or l 11 0) 10 h, and-false)
 
 -- of any other line the digits decide
 pub question_asked : (l : List ℕ) (word level : Parsed) → length l ≡ 12 → get_or l 8 0 ≡ 32 → get_or l 11 0 ≡ 10 → word ≡ parse_of (take 8 l) → level ≡ parse_of (take 2 (drop 9 l)) → question_as word level ≡ question_of l
