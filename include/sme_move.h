@@ -240,6 +240,7 @@ enum sme_result {
  * The version of the archive, as one number like SME_MOVE_VERSION. An archive has such a function for its own version
  * and for each before it whose hosts it serves, and none for a later one.
  */
+uint32_t sme_version_0_8(void);
 uint32_t sme_version_0_9(void);
 
 /*

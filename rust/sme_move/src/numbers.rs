@@ -66,7 +66,8 @@ extern "C" {
     ) -> u32;
 }
 
-/// The version that this package is written for: 65536 times the major number and the minor one.
+/// The version of the functions that this package is written for, but for those of listings: 65536 times the major
+/// number and the minor one.
 pub const VERSION: u32 = 8;
 
 /// That of the functions for listings, likewise.
