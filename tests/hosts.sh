@@ -5,9 +5,9 @@
 set -euo pipefail
 cd "$(dirname "$0")/.."
 root=$PWD
-out=target/hosts
-rm -rf "$out"
-mkdir -p "$out"
+# Outside the checkout, since it has links, and `rt ci` refuses a checkout that has any.
+out=$(mktemp -d)
+trap 'rm -rf "$out"' EXIT
 
 # block LANGUAGE N: the N-th fenced block of that language
 block() {
