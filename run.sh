@@ -37,25 +37,32 @@ crates() {
         END { take("sme_move"); take("sme_listing") }' "$root/crates.txt"
 }
 
-# Reads what the prover prints, and tells of each crate that is done and how many are left. A crate whose proofs stand from an
-# earlier run is not printed.
+# Reads what the prover prints, and tells of each crate that is done and how many are left. Those whose proofs stand from an
+# earlier run are only named as libraries of a crate above them: they count as done.
 progress() {
-    local line name='' left
-    local -A told=()
-    left=$(crates | wc -l)
+    local line name crate='' left
+    local -A wanted=()
+    for name in $(crates); do
+        wanted[$name]=1
+    done
+    left=${#wanted[@]}
     while IFS= read -r line; do
+        name=${line#* }
+        name=${name%%:*}
         case $line in
-        'rt: chose --jobs '*' for '*)
-            name=${line##* }
-            continue
+        'crate '*': modules loaded='*) crate=$name ;;
+        'library '*': modules loaded='*)
+            [ -n "${wanted[$name]:-}" ] || continue
+            unset "wanted[$name]"
+            left=$((left - 1))
             ;;
-        'logic=proved '*) ;;
-        *) continue ;;
+        'logic=proved '*)
+            { [ -n "$crate" ] && [ -n "${wanted[$crate]:-}" ]; } || continue
+            unset "wanted[$crate]"
+            left=$((left - 1))
+            echo "run.sh: $crate proved, $left left" >&2
+            ;;
         esac
-        { [ -n "$name" ] && [ -z "${told[$name]:-}" ]; } || continue
-        told[$name]=1
-        left=$((left - 1))
-        echo "run.sh: $name proved, $left left" >&2
     done
 }
 
