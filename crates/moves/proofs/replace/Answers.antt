@@ -4,9 +4,6 @@ use mathlib.Core.Bool.{true}
 use Rattle.moves.proofs.SpanLaws.{full_merged}
 use Rattle.moves.proofs.replace.Goals as goal
 
-pub is_full-requires : goal.is_full-requires
-is_full-requires c = c.requires.1.eights
-
 pub returns-then-is_full : goal.returns-then-is_full
 returns-then-is_full c =
     let a = c.args in

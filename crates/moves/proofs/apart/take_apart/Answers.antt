@@ -6,32 +6,12 @@ use native.Mathlib.Omega.{arith}
 use lib.ListN.{get_or, get_or-replicate}
 use Rattle.tiles.specs.Element.{bytes_of}
 use Rattle.tiles.proofs.SpanLaws.{strided_element}
-use Rattle.moves.proofs.BlockLaws.{written_none, written_block, written_end}
-use Rattle.moves.proofs.SpanLaws.{reads, bytes_of_range, cleared_later}
+use Rattle.moves.proofs.BlockLaws.{written_none, written_block}
+use Rattle.moves.proofs.SpanLaws.{bytes_of_range, cleared_later}
 use Rattle.moves.proofs.apart.take_apart.Goals as goal
 
 pub loop-e-init : goal.loop-e-init
-loop-e-init c = (omega arith, written_none _ _ _ _ _, written_none _ _ _ _ _)
-
-pub overflow_mul-at : goal.overflow_mul-at
-overflow_mul-at c = omega (arith, reads c.requires.0 _ c.loop-e-test.true)
-
-pub overflow_add-at : goal.overflow_add-at
-overflow_add-at c = omega (arith, reads c.requires.0 _ c.loop-e-test.true)
-
-pub overflow_mul-e : goal.overflow_mul-e
-overflow_mul-e c = omega (arith, c.requires.0.written.1 _ c.loop-e-test.true)
-
-pub overflow_add-to : goal.overflow_add-to
-overflow_add-to c = omega (arith, c.requires.0.written.1 _ c.loop-e-test.true)
-
-pub copy_element-requires : goal.copy_element-requires
-copy_element-requires c =
-    let h = c.requires.0 in
-    omega (arith, h.written.1 _ c.loop-e-test.true, reads h _ c.loop-e-test.true)
-
-pub copy_element-requires-in-loop-e : goal.copy_element-requires-in-loop-e
-copy_element-requires-in-loop-e c = omega (arith, reads c.requires.0 _ c.loop-e-test.true, bytes_of_range c.args.size)
+loop-e-init c = (written_none _ _ _ _ _, written_none _ _ _ _ _)
 
 pub loop-e-preserved : goal.loop-e-preserved
 loop-e-preserved c =
@@ -41,17 +21,10 @@ loop-e-preserved c =
     let at = a.from.start + l.e * a.from.step in
     let taken =
     written_block _ _ _ _ l.e m _ _
-    (λ i. get_or l.src (at + i) 0) l.invariant.1.1
-    (λ i w. (refl, strided_element a.to.start a.to.step m l.e i w, cleared_later a.from.start a.from.step m (bytes_of_range a.size).0 c.requires.1 l.e i a.src.now l.src w l.invariant.2.1))
-    c.copy_element.ensures in
+    (λ i. get_or l.src (at + i) 0) l.invariant.0.1
+    (λ i w. (refl, strided_element a.to.start a.to.step m l.e i w, cleared_later a.from.start a.from.step m (bytes_of_range a.size).0 c.requires.1 l.e i a.src.now l.src w l.invariant.1.1))
+    (rw (c.element_start-at.ensures, c.element_start.ensures) at c.copy_element.ensures) in
     let cleared =
-    written_block _ _ _ _ l.e m _ _ _ l.invariant.2.1 (λ i w. (refl, strided_element a.from.start a.from.step m l.e i w, sym (get_or-replicate 16 (0 + i) 0 0 (omega (arith, bytes_of_range a.size))))) c.copy_element-in-loop-e.ensures in
-    (omega arith, taken, cleared)
-
-pub returns : goal.returns
-returns c =
-    let l = c.loop-e in
-    record {
-      dst_after = written_end _ _ _ _ l.e _ _ l.invariant.1.1 l.invariant.0 c.loop-e-test.false;
-      src_after = written_end _ _ _ _ l.e _ _ l.invariant.2.1 l.invariant.0 c.loop-e-test.false;
-    }
+    written_block _ _ _ _ l.e m _ _ _ l.invariant.1.1 (λ i w. (refl, strided_element a.from.start a.from.step m l.e i w, sym (get_or-replicate 16 (0 + i) 0 0 (omega (arith, bytes_of_range a.size)))))
+    (rw c.element_start-at.ensures at c.copy_element-in-loop-e.ensures) in
+    (taken, cleared)

@@ -1,12 +1,8 @@
--- `moves::bytes::clear_bytes` meets its contract: after i turns the first i bytes are zero.
+-- `moves::bytes::clear_bytes` meets its contract: after i turns the first i bytes of the part that is lent are zero.
 -- Assumes nothing.
-use Prim.Native.Nat.{◌-◌, ◌≤◌}
 use Rattle.general.specs.Scatter.{all, zeros, onwards}
 use Rattle.moves.proofs.BlockLaws.{WrittenTo}
 use Rattle.moves.proofs.bytes.clear_bytes.Given as goal
 
-abbrev pub invariant-loop-i : goal.invariant-loop-i
-invariant-loop-i l = (l.i ≤ l.n) × WrittenTo (onwards l.at) all zeros l.initial.dst l.i l.dst
-
-abbrev pub decreases-loop-i : goal.decreases-loop-i
-decreases-loop-i l = l.n - l.i
+abbrev pub invariant-loop-byte : goal.invariant-loop-byte
+invariant-loop-byte l = WrittenTo (onwards 0) all zeros l.initial.byte-items l.byte-index l.byte-items

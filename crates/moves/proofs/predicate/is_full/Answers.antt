@@ -1,41 +1,29 @@
--- `moves::predicate::is_full` meets its contract: after g turns g eights have all bits that elements go by.
+-- `moves::predicate::is_full` meets its contract: the eights that were tested have all bits that elements go by.
 -- Assumes nothing.
-use mathlib.Core.Bool.{false≢true}
-use Prim.Native.Nat.{◌/◌, ◌<◌}
+use Prim.Native.Nat.{ℕ, ◌*◌, ◌/◌, ◌<◌}
+use mathlib.Core.Path.{◌≡◌, ◌∙◌, subst}
+use native.Mathlib.Nat.{zero-add}
 use native.Mathlib.Omega.{arith}
+use lib.Bits.{bit_and}
 use lib.ListN.{length}
-use borrow.Author.Tests.{ltb-true}
-use Rattle.moves.proofs.EightLaws.{eights_more, eights_active}
+use borrow.Author.Tests.{tests}
+use Rattle.std.specs.List.{AllWithin, range_with_len}
+use Rattle.std.proofs.Common.{rules}
+use Rattle.std.proofs.lemmas.Iterator.{cases_from_all, YieldsList-from_range}
+use Rattle.std.proofs.lemmas.List.FromFn.{length-range_with_len, get_or-range_with_len}
+use Rattle.moves.specs.Eights.{eight_at}
+use Rattle.moves.proofs.EightLaws.{eights_active}
 use Rattle.moves.proofs.predicate.is_full.Goals as goal
 
-pub loop-g-init : goal.loop-g-init
-loop-g-init c = (omega arith, λ j w. absurd (omega arith))
+-- what holds of each number of a range
+in_range : (P : ℕ → Type 0) (n : ℕ) → AllWithin P (range_with_len 0 n) 0 (length (range_with_len 0 n)) → (j : ℕ) → j < n → P j
+in_range P n h j w = subst P (get_or-range_with_len 0 n j 0 w ∙ zero-add j) (h j 0 (omega arith) (rw length-range_with_len w))
 
-pub overflow_mul-g : goal.overflow_mul-g
-overflow_mul-g c = omega arith
-
-pub eight-requires : goal.eight-requires
-eight-requires c = omega arith
-
-pub returns-then-eight-bits : goal.returns-then-eight-bits
-returns-then-eight-bits c e = absurd (false≢true e)
-
-pub overflow_add-g : goal.overflow_add-g
-overflow_add-g c = omega arith
-
-pub loop-g-smaller : goal.loop-g-smaller
-loop-g-smaller c = omega arith
-
-pub loop-g-preserved : goal.loop-g-preserved
-loop-g-preserved c =
-    let l = c.loop-g in
-    (omega arith, eights_more c.args.p.now c.element_bits-bits.result l.g l.invariant.1 (rw c.eight.ensures at c.if-eight-bits.false))
-
-pub returns : goal.returns
-returns c e =
-    let l = c.loop-g in
+pub returns-then-n-gt0 : goal.returns-then-n-gt0
+returns-then-n-gt0 c e =
     let a = c.args in
     let n = length a.p.now / 8 in
-    let some : 0 < n = ltb-true _ _ e in
-    eights_active a.p.now (λ i. (c.shared_slice_known-1.given i).fits) a.size (c.requires (omega arith))
-    (λ j w. rw c.element_bits-bits.ensures at (l.invariant.1 j (omega arith)))
+    let bits = c.element_bits-bits.result in
+    let has : ℕ → Type 0 = λ j. bit_and (eight_at a.p.now (j * 8)) bits ≡ bits in
+    let all : AllWithin has (range_with_len 0 n) 0 (length (range_with_len 0 n)) = rw e at (cases_from_all _ _ _ has (λ j. Unit {0}) c.all.ensures.ran (YieldsList-from_range 0 n n (cc) (omega arith)) (λ x q k. search (rules, tests)) (λ x q k. tt)) in
+    eights_active a.p.now (λ i. (c.type_inv.p i).fits) a.size (c.requires (omega arith)) (λ j w. rw c.element_bits-bits.ensures at (in_range has n all j w))

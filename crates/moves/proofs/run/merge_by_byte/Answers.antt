@@ -1,47 +1,23 @@
--- `moves::run::merge_by_byte` meets its contract: after j turns what goes by j predicate bytes is merged, by whichever size the masks are of.
+-- `moves::run::merge_by_byte` meets its contract: after j turns what goes by j predicate bytes is merged.
 -- Assumes nothing.
-use mathlib.Core.Path.{refl, ◌∙◌}
 use Prim.Native.Nat.{◌+◌}
-use native.Mathlib.Nat.{le_antisymm}
 use native.Mathlib.Omega.{arith}
 use lib.ListN.{get_or}
 use Rattle.general.proofs.ScatterLaws.{scatter_none}
+use Rattle.moves.specs.Eights.{bits_in}
 use Rattle.moves.proofs.RunLaws.{and_again, merged_more, merged_byte}
 use Rattle.moves.proofs.run.merge_by_byte.Goals as goal
 
 pub loop-j-init : goal.loop-j-init
-loop-j-init c = (omega arith, refl, λ s g. scatter_none _ _ _)
-
-pub overflow_add-i : goal.overflow_add-i
-overflow_add-i c = omega (arith, c.requires.0)
-
-pub overflow_mul-i : goal.overflow_mul-i
-overflow_mul-i c = omega (arith, c.requires.0, c.requires.2)
-
-pub overflow_mul-i-in-loop-j : goal.overflow_mul-i-in-loop-j
-overflow_mul-i-in-loop-j c = omega (arith, c.requires.0, c.requires.2)
-
-pub bounds-p-i : goal.bounds-p-i
-bounds-p-i c = omega (arith, c.requires.0)
+loop-j-init c = scatter_none _ _ _
 
 pub merge_byte-requires : goal.merge_byte-requires
 merge_byte-requires c =
-    let l = c.loop-j in
     let a = c.args in
-    let pre = c.requires in
-    (omega (arith, pre.0, pre.1, l.invariant.1), omega (arith, pre.0, pre.2), pre.3, and_again (get_or a.p.now (a.first + l.j) 0) a.bits)
+    (omega arith, omega arith, rw c.one.ensures (and_again (get_or a.p.now (a.first + c.loop-j.j) 0) (bits_in a.bits.size 0)))
 
 pub loop-j-preserved : goal.loop-j-preserved
 loop-j-preserved c =
     let l = c.loop-j in
     let a = c.args in
-    let byte = c.merge_byte.ensures in (
-      omega arith,
-      byte.1 ∙ l.invariant.1,
-      λ s g. merged_more a.p.now s a.src.now a.first l.j 1 a.dst.now (l.invariant.2 s g) (merged_byte a.p.now s a.src.now (a.first + l.j) _ g.few (rw g.byte at (byte.0 s g))),
-    )
-
-pub returns : goal.returns
-returns c =
-    let l = c.loop-j in
-    (λ s g. rw (le_antisymm l.invariant.0 c.loop-j-test.false) at (l.invariant.2 s g), l.invariant.1)
+    merged_more a.p.now a.bits.size a.src.now a.first l.j 1 a.dst.now l.invariant (merged_byte a.p.now a.bits.size a.src.now (a.first + l.j) _ a.bits.few (rw c.one.ensures at c.merge_byte.ensures))

@@ -1,28 +1,28 @@
--- `moves::run::merge_eight` meets its contract: after i turns the first i bytes are chosen; then all are written.
+-- `moves::run::merge_eight` meets its contract: after j turns what goes by 2 j predicate bytes is merged.
 -- Assumes nothing.
-use mathlib.Core.Bool.{cond}
-use mathlib.Core.Path.{refl, ◌∙◌}
-use Prim.Native.Nat.{ℕ, ◌+◌}
+use mathlib.Core.Path.{◌≡◌}
+use Prim.Native.Nat.{◌+◌, ◌*◌, ◌<◌}
 use native.Mathlib.Omega.{arith}
-use lib.ListN.{get_or, length-set}
-use Rattle.general.proofs.ScatterLaws.{scatter_none, scatter_more, scatter_end}
-use Rattle.moves.proofs.PartLaws.{scatter_by_part, scatter_picked}
-use Rattle.moves.specs.Mask.{masked}
+use Rattle.general.proofs.ScatterLaws.{scatter_none}
+use Rattle.moves.proofs.BlockLaws.{block_next}
+use Rattle.moves.proofs.PartLaws.{lent_length, lent_byte}
+use Rattle.moves.proofs.RunLaws.{some_bits, merged_more, merged_two}
 use Rattle.moves.proofs.run.merge_eight.Goals as goal
 
-pub loop-i-init : goal.loop-i-init
-loop-i-init c = (omega arith, refl, (refl, scatter_none _ _ _))
+pub loop-j-init : goal.loop-j-init
+loop-j-init c = scatter_none _ _ _
 
-pub loop-i-preserved : goal.loop-i-preserved
-loop-i-preserved c =
-    let l = c.loop-i in
-    (omega arith, l.invariant.1, (simp length-set l.invariant.2.0, rw c.choose.ensures (scatter_more _ _ _ _ _ l.invariant.2.1 refl)))
-
-pub returns : goal.returns
-returns c =
-    let l = c.loop-i in
+pub merge_mixed-requires-clause-mixed : goal.merge_mixed-requires-clause-mixed
+merge_mixed-requires-clause-mixed c i w =
     let a = c.args in
-    let val : ℕ → ℕ = λ k. get_or a.src.now (a.at_src + k) 0 in
-    c.copy_bytes.ensures
-    ∙ scatter_by_part _ _ (λ k. cond (masked a.b a.masks k) (val k) (get_or a.dst.now (a.at_dst + k) 0)) _ _ _ _ (omega (arith, l.invariant.1)) (scatter_end _ _ _ _ l.invariant.2.1 l.invariant.0 c.loop-i-test.false)
-    ∙ scatter_picked a.at_dst (λ k. masked a.b a.masks k) val a.dst.now _
+    let p = a.p.now in
+    let at = a.first + c.loop-j.j * 2 in
+    let within : i < 2 = omega (arith, lent_length at 2 p (omega arith)) in
+    let place : at + i ≡ a.first + (c.loop-j.j * 2 + i) = omega arith in
+    rw (lent_byte at 2 p i within, place) (some_bits p (λ k. (c.type_inv.p k).fits) a.bits.size a.bits.few a.first c.requires.mixed (c.loop-j.j * 2 + i) (omega arith))
+
+pub loop-j-preserved : goal.loop-j-preserved
+loop-j-preserved c =
+    let l = c.loop-j in
+    let a = c.args in
+    rw (block_next l.j 2) (merged_more a.p.now a.bits.size a.src.now a.first (l.j * 2) 2 a.dst.now l.invariant (merged_two a.p.now a.bits.size a.src.now (a.first + l.j * 2) _ a.bits.few c.merge_mixed.ensures))

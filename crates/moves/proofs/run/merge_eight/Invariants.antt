@@ -1,18 +1,9 @@
--- `moves::run::merge_eight` meets its contract: after i turns the first i bytes are chosen; then all are written.
+-- `moves::run::merge_eight` meets its contract: after j turns what goes by 2 j predicate bytes is merged.
 -- Assumes nothing.
-use mathlib.Core.Bool.{cond}
 use mathlib.Core.Path.{◌≡◌}
-use Prim.Native.Nat.{ℕ, ◌+◌, ◌-◌, ◌≤◌}
-use lib.ListN.{length, get_or}
-use Rattle.general.specs.Scatter.{all}
-use Rattle.moves.proofs.BlockLaws.{WrittenTo}
-use Rattle.moves.proofs.PartLaws.{each}
-use Rattle.moves.specs.Mask.{masked}
+use Prim.Native.Nat.{◌*◌}
+use Rattle.moves.specs.Mask.{merged_by}
 use Rattle.moves.proofs.run.merge_eight.Given as goal
 
-abbrev pub invariant-loop-i : goal.invariant-loop-i
-invariant-loop-i l =
-    (l.i ≤ 8) × (length l.initial.part ≡ 8) × WrittenTo each all (λ (k : ℕ). cond (masked l.b l.masks k) (get_or l.src (l.at_src + k) 0) (get_or l.dst (l.at_dst + k) 0)) l.initial.part l.i l.part
-
-abbrev pub decreases-loop-i : goal.decreases-loop-i
-decreases-loop-i l = 8 - l.i
+abbrev pub invariant-loop-j : goal.invariant-loop-j
+invariant-loop-j l = l.dst ≡ merged_by l.p l.bits.size l.src l.first (l.j * 2) l.initial.dst

@@ -1,16 +1,15 @@
--- `moves::run::merge_mixed` meets its contract: after j turns what goes by 2 j predicate bytes is merged, by whichever size the masks are of.
+-- `moves::run::merge_mixed` meets its contract: after i turns the first i bytes are chosen; then all are written.
 -- Assumes nothing.
-use mathlib.Core.Path.{◌≡◌}
-use Prim.Native.Nat.{◌*◌, ◌-◌, ◌≤◌}
-use lib.ListN.{length}
-use Rattle.tiles.specs.Element.{bytes_of}
-use Rattle.tiles.specs.declared.element.ElementSize.{ElementSize}
-use Rattle.moves.specs.Mask.{Masks, merged_by}
+use mathlib.Core.Bool.{cond, not}
+use Prim.Native.Nat.{ℕ, ◌+◌, ◌/◌}
+use lib.Bits.{bit_and}
+use lib.Dec.{eqb}
+use lib.ListN.{get_or}
+use Rattle.general.specs.Scatter.{all}
+use Rattle.moves.proofs.BlockLaws.{WrittenTo}
+use Rattle.moves.proofs.PartLaws.{each}
 use Rattle.moves.proofs.run.merge_mixed.Given as goal
 
-abbrev pub invariant-loop-j : goal.invariant-loop-j
-invariant-loop-j l =
-    (l.j ≤ 4) × (length l.dst ≡ length l.initial.dst) × ((s : ElementSize) → bytes_of s ≤ 4 → Masks (bytes_of s) l.masks → l.dst ≡ merged_by l.p s l.src l.first (l.j * 2) l.initial.dst)
-
-abbrev pub decreases-loop-j : goal.decreases-loop-j
-decreases-loop-j l = 4 - l.j
+abbrev pub invariant-loop-i : goal.invariant-loop-i
+invariant-loop-i g l =
+    WrittenTo each all (λ (k : ℕ). cond (not (eqb (bit_and (get_or l.by (k / 8) 0) (get_or l.bits.masks k 0)) 0)) (get_or l.src (l.at_src + k) 0) (get_or l.dst (l.at_dst + k) 0)) l.initial.part l.i l.part

@@ -1,13 +1,17 @@
--- `moves::run::merge_part` meets its contract: fewer than eight predicate bytes, or eights of them.
+-- `moves::run::merge_part` meets its contract: after g turns what goes by g eights of predicate bytes is merged.
 -- Assumes nothing.
-use native.Mathlib.Omega.{arith}
+use native.Mathlib.Nat.{zero-add}
+use Prim.Native.Nat.{◌*◌}
+use Rattle.general.proofs.ScatterLaws.{scatter_none}
+use Rattle.moves.proofs.BlockLaws.{block_next}
+use Rattle.moves.proofs.RunLaws.{merged_more}
 use Rattle.moves.proofs.run.merge_part.Goals as goal
 
-pub merge_by_byte-requires : goal.merge_by_byte-requires
-merge_by_byte-requires c = let pre = c.requires in (omega arith, pre.1, pre.2, record { size = pre.3.size; goes = pre.3.goes })
+pub loop-g-init : goal.loop-g-init
+loop-g-init c = scatter_none _ _ _
 
-pub merge_blocks-requires : goal.merge_blocks-requires
-merge_blocks-requires c = let pre = c.requires in (pre.0 c.if-p-lt8.false, pre.1, pre.2, pre.3)
-
-pub returns-then-p-lt8 : goal.returns-then-p-lt8
-returns-then-p-lt8 c s q g = c.merge_by_byte.ensures.0 s g
+pub loop-g-preserved : goal.loop-g-preserved
+loop-g-preserved c =
+    let l = c.loop-g in
+    let a = c.args in
+    rw (block_next l.g 8) (merged_more a.p.now a.bits.size a.src.now 0 (l.g * 8) 8 a.dst.now l.invariant (rw (zero-add (l.g * 8)) c.merge_block.ensures))
