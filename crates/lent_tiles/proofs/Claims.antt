@@ -2,11 +2,13 @@
 -- Assumes nothing.
 use Prim.Native.Nat.{ℕ, ◌+◌, ◌*◌, ◌/◌, ◌%◌, ◌<◌, ◌≤◌}
 use mathlib.Core.Path.{◌≡◌, refl, sym, ap, ◌∙◌, subst}
-use mathlib.Core.Bool.{Bool, true, false, cond, not, ◌&&◌}
+use mathlib.Core.Bool.{true, false}
 use mathlib.Core.List.{List, [], ◌∷◌}
 use mathlib.Core.Logic.{inl, inr}
 use native.Mathlib.Omega.{arith}
 use lib.ListN.{length, get_or}
+use Rattle.std.proofs.Common.{Result, Ok, Err, IsOkAnd, IsErr}
+use Rattle.std.specs.Result.{result_map_both}
 use Rattle.general.specs.Determined.{IsOneOf}
 use Rattle.general.proofs.BoolLaws.{refute}
 use Rattle.general.proofs.DeterminedLaws.{equal_determines}
@@ -14,17 +16,16 @@ use Rattle.general.specs.Least.{least}
 use Rattle.general.specs.Scatter.{scatter, all}
 use Rattle.general.proofs.ScatterLaws.{length-scatter, get_or-scatter, get_or-scatter_other}
 use Rattle.planner.specs.Tile.{tile_of, is_size, shares, is_free, is_valid, is_among, without}
-use Rattle.planner.specs.Held.{answer_number, valid_held, refused, take_of, give_up_of}
+use Rattle.planner.specs.Held.{answer_number, valid_held, take_of, number_of, give_up_of}
 use Rattle.planner.specs.declared.tile.Tile.{Tile}
 use Rattle.planner.specs.declared.held.Held.{Held}
-use Rattle.planner.specs.declared.answer.TileAnswer.{TileAnswer}
-use Rattle.planner.specs.declared.answer.TileAnswer.TheVariants.{Done, BadSize, BadHeld, NoFreeTile}
+use Rattle.planner.specs.declared.answer.TileRefusal.{TileRefusal}
+use Rattle.planner.specs.declared.answer.TileRefusal.TheVariants.{BadSize, BadHeld, NoFreeTile}
 use Rattle.planner.specs.declared.answer.Taken.{Taken}
-use Rattle.planner.specs.declared.answer.GivenUp.{GivenUp}
-use Rattle.planner.proofs.Claims.{taking_answers, held_determines}
+use Rattle.planner.proofs.Claims.{held_determines}
 use Rattle.planner.proofs.RoomLaws.{gives_up_one, take_held, give_up_invalid}
-use Rattle.lent_tiles.specs.Lent.{tiles_in, held_in, is_done, has_places, if_placed, take_in, give_up_in, number_in, held_out, array_after, count_after, Settles, TakesTile, GivesUpTile}
-use Rattle.lent_tiles.specs.Claims.{ShortIsBad, LentExamplesHold, Holds, SettlesDetermines, TakesTileDetermines, GivesUpTileDetermines, LentDetermines}
+use Rattle.lent_tiles.specs.Lent.{tiles_in, held_in, if_placed, take_in, give_up_in, held_of, number_in, held_out, array_after, count_after, Leaves, TakesLent, GivesUpLent, Settles, TakesTile, GivesUpTile}
+use Rattle.lent_tiles.specs.Claims.{ShortIsBad, LentExamplesHold, Holds, SettlesDetermines, TakesTileDetermines, GivesUpTileDetermines, TakesLentDetermines, GivesUpLentDetermines, LentDetermines}
 use Rattle.lent_tiles.proofs.LentLaws.{places_read}
 
 pub short_is_bad : ShortIsBad
@@ -34,17 +35,22 @@ short_is_bad ns n w = (taking, giving_up_lem)
     invalid : valid_held (held_in ns n) ≡ false
     invalid = refute (valid_held (held_in ns n)) (λ e. absurd (omega (arith, places_read ns n e)))
 
-    taking : (m : ℕ) → is_size m ≡ true → (take_in ns n m).answer ≡ BadHeld
-    taking m e = ap (λ (r : Taken). (if_placed ns (held_in ns n) r).answer) (take_held (held_in ns n) m e invalid)
+    taking : (m : ℕ) → is_size m ≡ true → take_in ns n m ≡ Err BadHeld
+    taking m e = ap (if_placed ns) (take_held (held_in ns n) m e invalid)
 
-    giving_up_lem : (x : Tile) → (give_up_in ns n x).answer ≡ BadHeld
-    giving_up_lem x = ap (λ (r : GivenUp). r.answer) (give_up_invalid (held_in ns n) x invalid)
+    giving_up_lem : (x : Tile) → give_up_in ns n x ≡ Err BadHeld
+    giving_up_lem x = give_up_invalid (held_in ns n) x invalid
+
+-- the held tiles alone have the answer's number
+held_number : (a : Result Taken TileRefusal) → answer_number (held_of a) ≡ answer_number a
+held_number (Ok r) = refl
+held_number (Err e) = refl
 
 -- all that a contract says of its results, in one list
-took : (ns : List ℕ) (n m r t n' : ℕ) (ns' : List ℕ) → TakesTile ns n m r t ns' n' → r ∷ t ∷ n' ∷ ns' ≡ answer_number (take_in ns n m).answer ∷ (take_in ns n m).number ∷ count_after n (take_in ns n m).answer (take_in ns n m).held ∷ array_after ns (take_in ns n m).answer (take_in ns n m).held
-took ns n m r t n' ns' e = λ i. e.settles.number i ∷ e.tile i ∷ e.settles.count i ∷ e.settles.tiles i
+took : (ns : List ℕ) (n m r t n' : ℕ) (ns' : List ℕ) → TakesTile ns n m r t ns' n' → r ∷ t ∷ n' ∷ ns' ≡ answer_number (take_in ns n m) ∷ number_of (take_in ns n m) ∷ count_after n (held_of (take_in ns n m)) ∷ array_after ns (held_of (take_in ns n m))
+took ns n m r t n' ns' e = λ i. (e.settles.number ∙ held_number (take_in ns n m)) i ∷ e.tile i ∷ e.settles.count i ∷ e.settles.tiles i
 
-gave : (ns : List ℕ) (n : ℕ) (x : Tile) (r n' : ℕ) (ns' : List ℕ) → GivesUpTile ns n x r ns' n' → r ∷ n' ∷ ns' ≡ answer_number (give_up_in ns n x).answer ∷ count_after n (give_up_in ns n x).answer (give_up_in ns n x).held ∷ array_after ns (give_up_in ns n x).answer (give_up_in ns n x).held
+gave : (ns : List ℕ) (n : ℕ) (x : Tile) (r n' : ℕ) (ns' : List ℕ) → GivesUpTile ns n x r ns' n' → r ∷ n' ∷ ns' ≡ answer_number (give_up_in ns n x) ∷ count_after n (give_up_in ns n x) ∷ array_after ns (give_up_in ns n x)
 gave ns n x r n' ns' e = λ i. e.number i ∷ e.count i ∷ e.tiles i
 
 pub lent_examples_hold : LentExamplesHold
@@ -83,24 +89,12 @@ lent_examples_hold = record {
 
 -- ---- the promises
 
--- every answer's number, and that another than 0 is no done
-answer_numbers : (a : TileAnswer) → IsOneOf (0 ∷ 8 ∷ 13 ∷ 16 ∷ []) (answer_number a)
-answer_numbers Done = inl refl
-answer_numbers BadSize = inr (inl refl)
-answer_numbers BadHeld = inr (inr (inr (inl refl)))
-answer_numbers NoFreeTile = inr (inr (inl refl))
-
-other_stays : (a : TileAnswer) → (answer_number a ≡ 0 → ⊥) → is_done a ≡ false
-other_stays Done n = absurd (n refl)
-other_stays BadSize n = refl
-other_stays BadHeld n = refl
-other_stays NoFreeTile n = refl
-
-zero_done : (a : TileAnswer) → answer_number a ≡ 0 → is_done a ≡ true
-zero_done Done e = refl
-zero_done BadSize e = absurd (omega arith)
-zero_done BadHeld e = absurd (omega arith)
-zero_done NoFreeTile e = absurd (omega arith)
+-- every answer's number
+answer_numbers : {A : Type 0} (a : Result A TileRefusal) → IsOneOf (0 ∷ 8 ∷ 13 ∷ 16 ∷ []) (answer_number a)
+answer_numbers (Ok x) = inl refl
+answer_numbers (Err BadSize) = inr (inl refl)
+answer_numbers (Err BadHeld) = inr (inr (inr (inl refl)))
+answer_numbers (Err NoFreeTile) = inr (inr (inl refl))
 
 -- held tiles that have places are written there
 holds_out : (ns : List ℕ) (h : Held) → 2 * h.count ≤ length ns → Holds ns h (held_out ns h)
@@ -127,38 +121,37 @@ holds_out ns h room = record {
     half_odd : (i : ℕ) → (2 * i + 1) / 2 ≡ i
     half_odd i = omega arith
 
-settles_determines : (ns : List ℕ) (n : ℕ) (a : TileAnswer) (h : Held) → SettlesDetermines ns n a h
-settles_determines ns n a h = record {
-  determined = equal_determines (λ (o : ℕ × List ℕ × ℕ). Settles ns n a h o.0 o.1 o.2) (answer_number a, array_after ns a h, count_after n a h) (λ o p i. (p.number i, p.tiles i, p.count i));
-  done = λ r n' ns' p e room.
-      let d = zero_done a (sym p.number ∙ e) in
-      (p.count ∙ ap (λ (b : Bool). cond b h.count n) d, subst (Holds ns h) (sym (p.tiles ∙ ap (λ (b : Bool). cond b (held_out ns h) ns) d)) (holds_out ns h room));
-  refused = λ r n' ns' p e.
-      let d = other_stays a (λ z. e (p.number ∙ z)) in
-      (p.tiles ∙ ap (λ (b : Bool). cond b (held_out ns h) ns) d, p.count ∙ ap (λ (b : Bool). cond b h.count n) d);
-}
-
-takes_tile_determines : (ns : List ℕ) (n m : ℕ) → TakesTileDetermines ns n m
-unfolding take_in
-takes_tile_determines ns n m = record {
-  determined = equal_determines (λ (o : ℕ × ℕ × List ℕ × ℕ). TakesTile ns n m o.0 o.1 o.2 o.3)
-      (answer_number k.answer, k.number, array_after ns k.answer k.held, count_after n k.answer k.held)
-      (λ o p i. (p.settles.number i, p.tile i, p.settles.tiles i, p.settles.count i));
-  numbers = λ r t n' ns' p. subst (IsOneOf (0 ∷ 8 ∷ 13 ∷ 16 ∷ [])) (sym p.settles.number) (answer_numbers k.answer);
-  refused = λ r t n' ns' p e.
-      let s = (settles_determines ns n k.answer k.held).refused r n' ns' p.settles e in
-      (p.tile ∙ zero (is_done f.answer && not (has_places ns f.held.count)) (λ z. e (p.settles.number ∙ z)), s.0, s.1);
+settles_determines : (ns : List ℕ) (n : ℕ) (a : Result Held TileRefusal) → SettlesDetermines ns n a
+settles_determines ns n a = record {
+  determined = equal_determines (λ (o : ℕ × List ℕ × ℕ). Settles ns n a o.0 o.1 o.2) (answer_number a, array_after ns a, count_after n a) (λ o p i. (p.number i, p.tiles i, p.count i));
+  done = done a;
+  refused = refused a;
 }
   where
-    k : Taken
-    k = take_in ns n m
+    done : (a : Result Held TileRefusal) (r n' : ℕ) (ns' : List ℕ) → Settles ns n a r ns' n' → r ≡ 0 → IsOkAnd a (λ h. 2 * h.count ≤ length ns → (n' ≡ h.count) × Holds ns h ns')
+    done (Ok h) r n' ns' p e = λ room. (p.count, subst (Holds ns h) (sym p.tiles) (holds_out ns h room))
+    done (Err BadSize) r n' ns' p e = absurd (omega (arith, sym e ∙ p.number))
+    done (Err BadHeld) r n' ns' p e = absurd (omega (arith, sym e ∙ p.number))
+    done (Err NoFreeTile) r n' ns' p e = absurd (omega (arith, sym e ∙ p.number))
 
-    f : Taken
-    f = take_of (held_in ns n) m
+    refused : (a : Result Held TileRefusal) (r n' : ℕ) (ns' : List ℕ) → Settles ns n a r ns' n' → (r ≡ 0 → ⊥) → (ns' ≡ ns) × (n' ≡ n)
+    refused (Ok h) r n' ns' p e = absurd (e p.number)
+    refused (Err f) r n' ns' p e = (p.tiles, p.count)
 
-    zero : (b : Bool) → (answer_number (cond b (refused BadHeld (held_in ns n)) f).answer ≡ 0 → ⊥) → (cond b (refused BadHeld (held_in ns n)) f).number ≡ 0
-    zero true e = refl
-    zero false e = ((taking_answers (held_in ns n) m).refused (λ d. e (ap answer_number d))).0
+takes_tile_determines : (ns : List ℕ) (n m : ℕ) → TakesTileDetermines ns n m
+takes_tile_determines ns n m = let k = take_in ns n m in record {
+  determined = equal_determines (λ (o : ℕ × ℕ × List ℕ × ℕ). TakesTile ns n m o.0 o.1 o.2 o.3)
+      (answer_number (held_of k), number_of k, array_after ns (held_of k), count_after n (held_of k))
+      (λ o p i. (p.settles.number i, p.tile i, p.settles.tiles i, p.settles.count i));
+  numbers = λ r t n' ns' p. subst (IsOneOf (0 ∷ 8 ∷ 13 ∷ 16 ∷ [])) (sym p.settles.number) (answer_numbers (held_of k));
+  refused = λ r t n' ns' p e.
+      let s = (settles_determines ns n (held_of k)).refused r n' ns' p.settles e in
+      (p.tile ∙ zero_lem k (λ z. e (p.settles.number ∙ z)), s.0, s.1);
+}
+  where
+    zero_lem : (a : Result Taken TileRefusal) → (answer_number (held_of a) ≡ 0 → ⊥) → number_of a ≡ 0
+    zero_lem (Ok x) e = absurd (e refl)
+    zero_lem (Err x) e = refl
 
 gives_up_tile_determines : (ns : List ℕ) (n : ℕ) (x : Tile) → GivesUpTileDetermines ns n x
 unfolding give_up_in
@@ -168,8 +161,43 @@ gives_up_tile_determines ns n x = record {
   refused = s.refused;
 }
   where
-    s : SettlesDetermines ns n (give_up_in ns n x).answer (give_up_in ns n x).held
-    s = settles_determines ns n (give_up_in ns n x).answer (give_up_in ns n x).held
+    s : SettlesDetermines ns n (give_up_in ns n x)
+    s = settles_determines ns n (give_up_in ns n x)
+
+-- what a refusal leaves
+left_by : (ns : List ℕ) (n : ℕ) (a : Result Held TileRefusal) (ns' : List ℕ) (n' : ℕ) → Leaves ns n a ns' n' → IsErr a → (ns' ≡ ns) × (n' ≡ n)
+left_by ns n (Ok h) ns' n' l e = absurd (cc)
+left_by ns n (Err f) ns' n' l e = (l.tiles, l.count)
+
+takes_lent_determines : (ns : List ℕ) (n m : ℕ) → TakesLentDetermines ns n m
+takes_lent_determines ns n m = record {
+  determined = equal_determines (λ (o : Result ℕ TileRefusal × List ℕ × ℕ). TakesLent ns n m o.0 o.1 o.2)
+      (result_map_both (λ t. t.number) (λ e. e) (take_in ns n m), array_after ns (held_of (take_in ns n m)), count_after n (held_of (take_in ns n m)))
+      (λ o p i. (p.answer i, p.leaves.tiles i, p.leaves.count i));
+  refused = λ e n' ns' p. left_by ns n (held_of (take_in ns n m)) ns' n' p.leaves (refused_lem (take_in ns n m) e p.answer);
+}
+  where
+    refused_lem : (a : Result Taken TileRefusal) (e : TileRefusal) → Err e ≡ result_map_both (λ t. t.number) (λ e. e) a → IsErr (held_of a)
+    refused_lem (Ok t) e q = absurd (cc)
+    refused_lem (Err f) e q = refl
+
+gives_up_lent_determines : (ns : List ℕ) (n : ℕ) (x : Tile) → GivesUpLentDetermines ns n x
+gives_up_lent_determines ns n x = record {
+  determined = equal_determines (λ (o : Result (Unit {0}) TileRefusal × List ℕ × ℕ). GivesUpLent ns n x o.0 o.1 o.2)
+      (result_map_both (λ _. tt {0}) (λ e. e) (give_up_in ns n x), array_after ns (give_up_in ns n x), count_after n (give_up_in ns n x))
+      (λ o p i. (p.answer i, p.leaves.tiles i, p.leaves.count i));
+  refused = λ e n' ns' p. left_by ns n (give_up_in ns n x) ns' n' p.leaves (refused_lem (give_up_in ns n x) e p.answer);
+}
+  where
+    refused_lem : (a : Result Held TileRefusal) (e : TileRefusal) → Err e ≡ result_map_both (λ _. tt {0}) (λ e. e) a → IsErr a
+    refused_lem (Ok t) e q = absurd (cc)
+    refused_lem (Err f) e q = refl
 
 pub lent_determines : LentDetermines
-lent_determines = record { settles = settles_determines; takes = takes_tile_determines; gives_up = gives_up_tile_determines }
+lent_determines = record {
+  settles = settles_determines;
+  takes = takes_tile_determines;
+  gives_up = gives_up_tile_determines;
+  takes_lent = takes_lent_determines;
+  gives_up_lent = gives_up_lent_determines;
+}

@@ -2,15 +2,18 @@
 -- Assumes nothing.
 use Prim.Native.Nat.{ℕ, zero, suc, ◌+◌, ◌*◌, ◌/◌, ◌%◌, ◌<◌, ◌≤◌}
 use mathlib.Core.Path.{◌≡◌, refl, sym, ap, subst, ◌∙◌}
-use mathlib.Core.Bool.{Bool, true, false, cond, not, ◌&&◌}
-use mathlib.Core.List.{List, [], ◌∷◌, ◌++◌, append-nil}
+use mathlib.Core.Bool.{Bool, true, false, cond}
+use mathlib.Core.List.{List, [], ◌∷◌, ◌++◌}
 use mathlib.Core.Logic.{◌⊎◌, inl, inr}
-use Rattle.std.proofs.Common.{◌≢◌}
+use Rattle.std.proofs.Common.{Result, Ok, Err}
+use Rattle.std.proofs.lemmas.List.{ext_get_or}
+use Rattle.std.specs.Array.{IsFromFnResultFrom, IsFromFnResult}
+use denote.Param.Members.{Mut, Called}
+use Rattle.std.specs.Result.{result_map_both, result_unwrap_or}
 use native.Mathlib.Decide.{ℕ_discrete}
-use native.Mathlib.Numerals.{add-one}
 use native.Mathlib.Omega.{arith}
 use lib.Dec.{ltb}
-use lib.ListN.{length, length-append, get_or, set, replicate, get_or-append}
+use lib.ListN.{length, length-append, get_or, set, get_or-append}
 use lib.Seq.{get_or-append_seam, length-take-le}
 use borrow.Author.Tests.{leb-true, ltb-true, lt-leb, le-leb}
 use Rattle.general.proofs.BoolLaws.{by_test, clash}
@@ -18,20 +21,19 @@ use Rattle.settings.specs.Settings.{is_vector_length}
 use Rattle.general.specs.Scatter.{scatter, all}
 use Rattle.general.proofs.ScatterLaws.{scatter_more}
 use Rattle.planner.specs.Tile.{no_tile, is_size, is_tile}
-use Rattle.planner.specs.Held.{answer_number, held_tiles, held_from, valid_held, refused, take_of, give_up_of}
+use Rattle.planner.specs.Held.{answer_number, held_tiles, valid_held, take_of, number_of}
 use Rattle.planner.specs.Bytes.{Vectors}
 use Rattle.planner.specs.Claims.{Sixteen}
 use Rattle.planner.specs.declared.tile.Tile.{Tile}
 use Rattle.planner.specs.declared.held.Held.{Held}
-use Rattle.planner.specs.declared.answer.TileAnswer.{TileAnswer}
-use Rattle.planner.specs.declared.answer.TileAnswer.TheVariants.{Done, BadSize, BadHeld, NoFreeTile}
+use Rattle.planner.specs.declared.answer.TileRefusal.{TileRefusal}
+use Rattle.planner.specs.declared.answer.TileRefusal.TheVariants.{BadHeld}
 use Rattle.planner.specs.declared.answer.Taken.{Taken}
-use Rattle.planner.specs.declared.answer.GivenUp.{GivenUp}
 use Rattle.planner.proofs.HeldLaws.{valid_held_lem, valid_tiles}
-use Rattle.planner.proofs.RoomLaws.{joined_from, without_length}
+use Rattle.planner.proofs.RoomLaws.{without_length}
 use Rattle.planner.proofs.AnswerLaws.{give_up_among}
 use Rattle.planner.proofs.Claims.{taking_takes}
-use Rattle.lent_tiles.specs.Lent.{tile_at_place, tiles_in, held_in, is_done, has_places, if_placed, take_in, give_up_in, number_in, held_out, FitsPlaces, Settles, TakesTile, GivesUpTile}
+use Rattle.lent_tiles.specs.Lent.{tile_at_place, tiles_in, held_in, has_places, if_placed, take_in, give_up_in, held_of, number_in, held_out, array_after, count_after, TakesLent, GivesUpLent, TakesTile, GivesUpTile}
 
 -- ---- reading
 
@@ -51,35 +53,27 @@ tiles_in-at ns (suc n) k w = go (ℕ_discrete k n) (λ v. tiles_in-at ns n k v)
         ∙ get_or-append_seam (tiles_in ns n) (tile_at_place ns n) [] no_tile ∙ ap (tile_at_place ns) (sym q)
     go (no q) ih = get_or-append (tiles_in ns n) (tile_at_place ns n ∷ []) no_tile k (rw (tiles_in-length ns n) (omega arith)) ∙ ih (omega arith)
 
--- the record while the loop is at place i
-abbrev pub filled_to : List ℕ → ℕ → ℕ → Held
-filled_to ns n i = record { tiles = (held_from (tiles_in ns i)).tiles; count = n }
+-- an array that `from_fn` made of calls that all give `v` of the index
+module _ {F B : Type 0} (g : Mut F (ℕ × Unit {0}) B) (v : ℕ → B) (f : F) (gives : (i : ℕ) (y : B) (q : F) → Called g f (i, tt) y q → (q ≡ f) × (y ≡ v i)) where
+  made_from : (ys : List B) (n i : ℕ) (p : F) → p ≡ f → IsFromFnResultFrom g p ys i n → (k : ℕ) (d : B) → i ≤ k → k < i + n → get_or ys k d ≡ v k
+  made_from ys zero i p e r k d a b = absurd (omega arith)
+  made_from ys (suc n) i p e r k d a b = go (ℕ_discrete k i) (λ v. made_from ys n (i + 1) r.0 call.0 r.4 k d v (omega arith))
+    where
+      call : (r.0 ≡ f) × (r.1 ≡ v i)
+      call = gives i r.1 r.0 (subst (λ (p : F). Called g p (i, tt) r.1 r.0) e r.3)
 
-pub filled_none : (ns : List ℕ) (n : ℕ) → record { tiles = replicate 16 no_tile; count = n } ≡ filled_to ns n 0
-unfolding tiles_in
-filled_none ns n = refl
+      go : Dec (k ≡ i) → (i + 1 ≤ k → get_or ys k d ≡ v k) → get_or ys k d ≡ v k
+      go (yes q) later = ap (λ (j : ℕ). get_or ys j d) q ∙ r.2.1 d ∙ call.1 ∙ ap v (sym q)
+      go (no q) later = later (omega arith)
 
-pub filled_more : (ns : List ℕ) (n i : ℕ) (h : Held) → h ≡ filled_to ns n i → i < 16 → record { tiles = set h.tiles i (tile_at_place ns i); count = h.count } ≡ filled_to ns n (i + 1)
-unfolding tiles_in
-filled_more ns n i h e w = ap (λ (k : Held). record { tiles = set k.tiles i (tile_at_place ns i); count = k.count }) e ∙ (λ j. record { tiles = tiles j; count = n })
-  where
-    long : length (tiles_in ns i) ≡ i
-    long = tiles_in-length ns i
+  pub made_at : (ys : List B) (n k : ℕ) (d : B) → IsFromFnResult g f ys n → k < n → get_or ys k d ≡ v k
+  made_at ys n k d r w = made_from ys n 0 f refl r.each k d (omega arith) (omega arith)
 
-    next : tiles_in ns i ++ (tile_at_place ns i ∷ []) ≡ tiles_in ns (i + 1)
-    next = rw (add-one i)
-
-    tiles : set (held_from (tiles_in ns i)).tiles i (tile_at_place ns i) ≡ (held_from (tiles_in ns (i + 1))).tiles
-    tiles =
-        ap (λ (k : ℕ). set (held_from (tiles_in ns i)).tiles k (tile_at_place ns i)) (sym long)
-        ∙ ap (λ (k : Held). k.tiles) (joined_from (tiles_in ns i) (tile_at_place ns i) (omega (arith, long)))
-        ∙ ap (λ l. (held_from l).tiles) next
-
-pub filled_all : (ns : List ℕ) (n i : ℕ) (h : Held) → h ≡ filled_to ns n i → i ≡ 16 → h ≡ held_in ns n
-filled_all ns n i h e w = e ∙ ap (filled_to ns n) w ∙ (λ j. record { tiles = tiles j; count = n })
-  where
-    tiles : (held_from (tiles_in ns 16)).tiles ≡ tiles_in ns 16
-    tiles = rw (tiles_in-length ns 16) (append-nil (tiles_in ns 16))
+-- sixteen tiles, each the one at its place
+pub sixteen_in : (ns : List ℕ) (ys : List Tile) → length ys ≡ 16 → ((k : ℕ) → k < 16 → get_or ys k no_tile ≡ tile_at_place ns k) → ys ≡ tiles_in ns 16
+sixteen_in ns ys long at =
+    ext_get_or no_tile ys (tiles_in ns 16) (long ∙ sym (tiles_in-length ns 16))
+    (λ i w. at i (omega (arith, long)) ∙ sym (tiles_in-at ns 16 i (omega (arith, long))))
 
 -- ---- writing
 
@@ -101,36 +95,19 @@ module _ (h : Held) (i : ℕ) where
 
 -- ---- answering
 
--- the `else` of a `let` knows that the answer is not done
-pub not_done : (a : TileAnswer) → a ≢ Done → is_done a ≡ false
-not_done Done k = absurd (k refl)
-not_done BadSize k = refl
-not_done BadHeld k = refl
-not_done NoFreeTile k = refl
-
-done_is : (a : TileAnswer) → is_done a ≡ true → a ≡ Done
-done_is Done e = refl
-done_is BadSize e = absurd (clash false e refl)
-done_is BadHeld e = absurd (clash false e refl)
-done_is NoFreeTile e = absurd (clash false e refl)
-
 -- what taking from the held tiles of an array gave
-module _ (ns : List ℕ) (n m : ℕ) (h : Held) (r : Taken) (read : h ≡ held_in ns n) (took : r ≡ take_of h m) where
-  same : r ≡ take_of (held_in ns n) m
-  same = took ∙ ap (λ (k : Held). take_of k m) read
-
-  placed : take_in ns n m ≡ if_placed ns h r
+module _ (ns : List ℕ) (n m : ℕ) where
+  pub take_refused : (e : TileRefusal) → take_of (held_in ns n) m ≡ Err e → Err e ≡ take_in ns n m
   unfolding take_in
-  placed = ap (λ (k : Taken). if_placed ns (held_in ns n) k) (sym same) ∙ ap (λ (k : Held). if_placed ns k r) (sym read)
+  take_refused e took = rw took
 
-  pub take_refused : r.answer ≢ Done → r ≡ take_in ns n m
-  take_refused k = sym (placed ∙ rw (not_done r.answer k))
+  pub take_unplaced : (r : Taken) → take_of (held_in ns n) m ≡ Ok r → length ns / 2 < r.held.count → Err BadHeld ≡ take_in ns n m
+  unfolding take_in
+  take_unplaced r took w = rw (took, lt-leb (2 * r.held.count) (length ns) (omega arith))
 
-  pub take_unplaced : r.answer ≡ Done → length ns / 2 < r.held.count → refused BadHeld h ≡ take_in ns n m
-  take_unplaced e w = sym (placed ∙ rw (e, lt-leb (2 * r.held.count) (length ns) (omega arith)))
-
-  pub take_placed : r.answer ≡ Done → r.held.count ≤ length ns / 2 → r ≡ take_in ns n m
-  take_placed e w = sym (placed ∙ rw (e, le-leb (2 * r.held.count) (length ns) (omega arith)))
+  pub take_placed : (r : Taken) → take_of (held_in ns n) m ≡ Ok r → r.held.count ≤ length ns / 2 → Ok r ≡ take_in ns n m
+  unfolding take_in
+  take_placed r took w = rw (took, le-leb (2 * r.held.count) (length ns) (omega arith))
 
 -- ---- places
 
@@ -157,54 +134,69 @@ shortest : Vectors 16 16
 unfolding is_vector_length
 shortest = record { valid = refl; fit = omega arith }
 
-pub take_places : (ns : List ℕ) (n m : ℕ) → FitsPlaces ns (take_in ns n m).answer (take_in ns n m).held
+-- held tiles that are to be written have places
+abbrev pub Fits : List ℕ → Held → Type 0
+Fits ns h = (h.count ≤ 16) × (2 * h.count ≤ length ns)
+
+pub take_places : (ns : List ℕ) (n m : ℕ) (r : Taken) → take_in ns n m ≡ Ok r → Fits ns r.held
 unfolding take_in
-take_places ns n m = go (is_done r.answer) refl (has_places ns r.held.count) refl
+take_places ns n m r e = go (take_of (held_in ns n) m) refl e
   where
-    r : Taken
-    r = take_of (held_in ns n) m
+    placed : (k : Taken) (b : Bool) → has_places ns k.held.count ≡ b → cond b (Ok k) (Err BadHeld) ≡ Ok r → (k ≡ r) × (has_places ns k.held.count ≡ true)
+    placed k true p e = (cc, p)
+    placed k false p e = absurd (cc)
 
-    go : (b : Bool) → is_done r.answer ≡ b → (c : Bool) → has_places ns r.held.count ≡ c →
-        FitsPlaces ns (cond (b && not c) (refused BadHeld (held_in ns n)) r).answer (cond (b && not c) (refused BadHeld (held_in ns n)) r).held
-    go false q c s e = absurd (clash (is_done r.answer) e q)
-    go true q false s e = absurd (clash false e refl)
-    go true q true s e =
-        let t = taking_takes 16 16 (held_in ns n) m shortest (sixteen_read ns n) (done_is r.answer q) in
-        ((valid_held_lem r.held t.valid).few, leb-true (2 * r.held.count) (length ns) s)
+    go : (a : Result Taken TileRefusal) → take_of (held_in ns n) m ≡ a → if_placed ns a ≡ Ok r → Fits ns r.held
+    go (Err f) q e = absurd (cc)
+    go (Ok k) q e =
+        let p = placed k (has_places ns k.held.count) refl e in
+        let t = taking_takes 16 16 (held_in ns n) m k shortest (sixteen_read ns n) q in
+        subst (λ (k : Taken). Fits ns k.held) p.0 ((valid_held_lem k.held t.valid).few, leb-true (2 * k.held.count) (length ns) p.1)
 
-give_up_places : (ns : List ℕ) (n : ℕ) (x : Tile) → FitsPlaces ns (give_up_in ns n x).answer (give_up_in ns n x).held
+pub give_up_places : (ns : List ℕ) (n : ℕ) (x : Tile) (h : Held) → give_up_in ns n x ≡ Ok h → Fits ns h
 unfolding give_up_in
-give_up_places ns n x e =
-    let h = held_in ns n in
-    let a = give_up_among h x (done_is (give_up_of h x).answer e) in
-    let w = (valid_held_lem h a.valid).few in
-    let fewer = without_length (held_tiles h) x in
+give_up_places ns n x h e =
+    let k = held_in ns n in
+    let a = give_up_among k x h e in
+    let w = (valid_held_lem k a.valid).few in
+    let fewer = without_length (held_tiles k) x in
     let some = length-take-le n (tiles_in ns 16) (omega (arith, tiles_in-length ns 16)) in
     rw a.is (omega (arith, fewer, some), omega (arith, fewer, some, places_read ns n a.valid))
 
--- ---- settling
+-- ---- what giving up leaves
 
-module _ (ns : List ℕ) (n : ℕ) (a : TileAnswer) (h : Held) (r : ℕ) (number : r ≡ answer_number a) where
-  pub settle_stays : a ≢ Done → Settles ns n a h r ns n
-  settle_stays k = let e = not_done a k in record { number = number; tiles = rw e; count = rw e }
+module _ (ns : List ℕ) (n : ℕ) (x : Tile) where
+  pub gives_up_refused : (r : Result (Unit {0}) TileRefusal) (e : TileRefusal) → r ≡ Err e → give_up_in ns n x ≡ Err e → GivesUpLent ns n x r ns n
+  gives_up_refused r e q gave = record {
+    answer = q ∙ sym (ap (result_map_both (λ _. tt {0}) (λ e. e)) gave);
+    leaves = record { tiles = ap (array_after ns) (sym gave); count = ap (count_after n) (sym gave) };
+  }
 
-  pub settle_writes : (ns' : List ℕ) → a ≡ Done → ns' ≡ held_out ns h → Settles ns n a h r ns' h.count
-  settle_writes ns' e w = record { number = number; tiles = rw e w; count = rw e }
+  pub gives_up_left : (h : Held) (ns' : List ℕ) (n' : ℕ) → give_up_in ns n x ≡ Ok h → ns' ≡ held_out ns h → n' ≡ h.count → GivesUpLent ns n x (Ok tt) ns' n'
+  gives_up_left h ns' n' gave tiles count = record {
+    answer = sym (ap (result_map_both (λ _. tt {0}) (λ e. e)) gave);
+    leaves = record { tiles = tiles ∙ ap (array_after ns) (sym gave); count = count ∙ ap (count_after n) (sym gave) };
+  }
 
 -- ---- exports
 
-pub take_exports : (ns : List ℕ) (n m : ℕ) (k : Taken) → k ≡ take_in ns n m → (r : ℕ) (ns' : List ℕ) (n' : ℕ) →
-    Settles ns n k.answer k.held r ns' n' → TakesTile ns n m r k.number ns' n'
-take_exports ns n m k e r ns' n' s =
-    record { settles = subst (λ (k : Taken). Settles ns n k.answer k.held r ns' n') e s; tile = ap (λ (k : Taken). k.number) e }
+pub take_exports : (ns : List ℕ) (n m : ℕ) (r : Result ℕ TileRefusal) (ns' : List ℕ) (n' : ℕ) →
+    TakesLent ns n m r ns' n' → TakesTile ns n m (answer_number r) (result_unwrap_or r 0) ns' n'
+take_exports ns n m r ns' n' p =
+    record { settles = record { number = ap answer_number p.answer ∙ number (take_in ns n m); tiles = p.leaves.tiles; count = p.leaves.count }; tile = ap (λ (r : Result ℕ TileRefusal). result_unwrap_or r 0) p.answer ∙ tile (take_in ns n m) }
+  where
+    number : (a : Result Taken TileRefusal) → answer_number (result_map_both (λ t. t.number) (λ e. e) a) ≡ answer_number (held_of a)
+    number (Ok k) = refl
+    number (Err e) = refl
 
-module _ (ns : List ℕ) (n : ℕ) (x : Tile) (h : Held) (k : GivenUp) (read : h ≡ held_in ns n) (gave : k ≡ give_up_of h x) where
-  given : give_up_in ns n x ≡ k
-  unfolding give_up_in
-  given = sym (gave ∙ ap (λ (h : Held). give_up_of h x) read)
+    tile : (a : Result Taken TileRefusal) → result_unwrap_or (result_map_both (λ t. t.number) (λ e. e) a) 0 ≡ number_of a
+    tile (Ok k) = refl
+    tile (Err e) = refl
 
-  pub given_up_places : FitsPlaces ns k.answer k.held
-  given_up_places = subst (λ (k : GivenUp). FitsPlaces ns k.answer k.held) given (give_up_places ns n x)
-
-  pub give_up_exports : (r : ℕ) (ns' : List ℕ) (n' : ℕ) → Settles ns n k.answer k.held r ns' n' → GivesUpTile ns n x r ns' n'
-  give_up_exports r ns' n' s = subst (λ (k : GivenUp). Settles ns n k.answer k.held r ns' n') (sym given) s
+pub give_up_exports : (ns : List ℕ) (n : ℕ) (x : Tile) (r : Result (Unit {0}) TileRefusal) (ns' : List ℕ) (n' : ℕ) →
+    GivesUpLent ns n x r ns' n' → GivesUpTile ns n x (answer_number r) ns' n'
+give_up_exports ns n x r ns' n' p = record { number = ap answer_number p.answer ∙ number (give_up_in ns n x); tiles = p.leaves.tiles; count = p.leaves.count }
+  where
+    number : (a : Result Held TileRefusal) → answer_number (result_map_both (λ _. tt {0}) (λ e. e) a) ≡ answer_number a
+    number (Ok h) = refl
+    number (Err e) = refl

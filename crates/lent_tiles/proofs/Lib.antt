@@ -1,2 +1,2 @@
-mod LentLaws
+pub mod LentLaws
 mod Claims

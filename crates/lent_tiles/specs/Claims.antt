@@ -1,21 +1,21 @@
 -- Claims about held tiles in arrays that a host lends: an array shorter than its count; worked examples, each about all results that the
 -- contracts allow; and that the contracts leave nothing open. To believe: the literal numbers.
 -- Assumes nothing.
-use Rattle.std.specs.Prelude.{ℕ, ◌+◌, ◌*◌, ◌<◌, ◌≤◌, ◌≡◌, true, List, [], ◌∷◌, ◌++◌, length, get_or, take, drop}
+use Rattle.std.specs.Prelude.{ℕ, ◌+◌, ◌*◌, ◌<◌, ◌≤◌, ◌≡◌, true, List, [], ◌∷◌, ◌++◌, length, get_or, take, drop, Result, Err, IsOkAnd}
 use Rattle.general.specs.Determined.{Determined, IsOneOf}
 use Rattle.planner.specs.Tile.{tile_of, no_tile, is_size}
 use Rattle.planner.specs.Examples.{numbers_of, every_part}
 use Rattle.planner.specs.declared.tile.Tile.{Tile}
-use Rattle.planner.specs.declared.answer.TileAnswer.TheVariants.{BadHeld}
+use Rattle.planner.specs.declared.answer.TileRefusal.{TileRefusal}
+use Rattle.planner.specs.declared.answer.TileRefusal.TheVariants.{BadHeld}
 use Rattle.planner.specs.declared.held.Held.{Held}
-use Rattle.planner.specs.declared.answer.TileAnswer.{TileAnswer}
-use Rattle.lent_tiles.specs.Lent.{take_in, give_up_in, Settles, TakesTile, GivesUpTile}
+use Rattle.lent_tiles.specs.Lent.{take_in, give_up_in, TakesLent, GivesUpLent, Settles, TakesTile, GivesUpTile}
 
 -- an array shorter than its count is answer 16, but for a size that is none of the five
 abbrev pub ShortIsBad : Type 0
 ShortIsBad =
     (ns : List ℕ) (n : ℕ) → length ns < 2 * n →
-    ((m : ℕ) → is_size m ≡ true → (take_in ns n m).answer ≡ BadHeld) × ((x : Tile) → (give_up_in ns n x).answer ≡ BadHeld)
+    ((m : ℕ) → is_size m ≡ true → take_in ns n m ≡ Err BadHeld) × ((x : Tile) → give_up_in ns n x ≡ Err BadHeld)
 
 -- asked for a tile of m bytes with this array and count: the answer's number, the tile's, the count afterwards, the array afterwards
 abbrev pub Took : List ℕ → ℕ → ℕ → List ℕ → Type 0
@@ -77,10 +77,10 @@ pub record Holds (ns : List ℕ) (h : Held) (ns' : List ℕ) : Type 0 where
   pub long : length ns' ≡ length ns
 
 -- an answer's number, array and count are one; with 0 the array has the held tiles that have places, and another number leaves array and count
-pub record SettlesDetermines (ns : List ℕ) (n : ℕ) (a : TileAnswer) (h : Held) : Type 0 where
-  pub determined : Determined (λ (o : ℕ × List ℕ × ℕ). Settles ns n a h o.0 o.1 o.2)
-  pub done : (r n' : ℕ) (ns' : List ℕ) → Settles ns n a h r ns' n' → r ≡ 0 → 2 * h.count ≤ length ns → (n' ≡ h.count) × Holds ns h ns'
-  pub refused : (r n' : ℕ) (ns' : List ℕ) → Settles ns n a h r ns' n' → (r ≡ 0 → ⊥) → (ns' ≡ ns) × (n' ≡ n)
+pub record SettlesDetermines (ns : List ℕ) (n : ℕ) (a : Result Held TileRefusal) : Type 0 where
+  pub determined : Determined (λ (o : ℕ × List ℕ × ℕ). Settles ns n a o.0 o.1 o.2)
+  pub done : (r n' : ℕ) (ns' : List ℕ) → Settles ns n a r ns' n' → r ≡ 0 → IsOkAnd a (λ h. 2 * h.count ≤ length ns → (n' ≡ h.count) × Holds ns h ns')
+  pub refused : (r n' : ℕ) (ns' : List ℕ) → Settles ns n a r ns' n' → (r ≡ 0 → ⊥) → (ns' ≡ ns) × (n' ≡ n)
 
 pub record TakesTileDetermines (ns : List ℕ) (n m : ℕ) : Type 0 where
   pub determined : Determined (λ (o : ℕ × ℕ × List ℕ × ℕ). TakesTile ns n m o.0 o.1 o.2 o.3)
@@ -92,7 +92,18 @@ pub record GivesUpTileDetermines (ns : List ℕ) (n : ℕ) (x : Tile) : Type 0 w
   pub numbers : (r n' : ℕ) (ns' : List ℕ) → GivesUpTile ns n x r ns' n' → IsOneOf (0 ∷ 16 ∷ []) r
   pub refused : (r n' : ℕ) (ns' : List ℕ) → GivesUpTile ns n x r ns' n' → (r ≡ 0 → ⊥) → (ns' ≡ ns) × (n' ≡ n)
 
+-- the same of the contracts over answers; a refusal leaves array and count
+pub record TakesLentDetermines (ns : List ℕ) (n m : ℕ) : Type 0 where
+  pub determined : Determined (λ (o : Result ℕ TileRefusal × List ℕ × ℕ). TakesLent ns n m o.0 o.1 o.2)
+  pub refused : (e : TileRefusal) (n' : ℕ) (ns' : List ℕ) → TakesLent ns n m (Err e) ns' n' → (ns' ≡ ns) × (n' ≡ n)
+
+pub record GivesUpLentDetermines (ns : List ℕ) (n : ℕ) (x : Tile) : Type 0 where
+  pub determined : Determined (λ (o : Result (Unit {0}) TileRefusal × List ℕ × ℕ). GivesUpLent ns n x o.0 o.1 o.2)
+  pub refused : (e : TileRefusal) (n' : ℕ) (ns' : List ℕ) → GivesUpLent ns n x (Err e) ns' n' → (ns' ≡ ns) × (n' ≡ n)
+
 pub record LentDetermines : Type 0 where
-  pub settles : (ns : List ℕ) (n : ℕ) (a : TileAnswer) (h : Held) → SettlesDetermines ns n a h
+  pub settles : (ns : List ℕ) (n : ℕ) (a : Result Held TileRefusal) → SettlesDetermines ns n a
   pub takes : (ns : List ℕ) (n m : ℕ) → TakesTileDetermines ns n m
   pub gives_up : (ns : List ℕ) (n : ℕ) (x : Tile) → GivesUpTileDetermines ns n x
+  pub takes_lent : (ns : List ℕ) (n m : ℕ) → TakesLentDetermines ns n m
+  pub gives_up_lent : (ns : List ℕ) (n : ℕ) (x : Tile) → GivesUpLentDetermines ns n x

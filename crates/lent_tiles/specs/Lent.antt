@@ -3,16 +3,16 @@
 -- array shorter than its count is answer 16; a tile that is found needs a place in the array, or the answer is 16 too; what stands after the held
 -- tiles stays.
 -- Assumes nothing.
-use Rattle.std.specs.Prelude.{ℕ, zero, suc, ◌+◌, ◌*◌, ◌/◌, ◌%◌, ◌≤◌, ◌≡◌, Bool, true, false, cond, not, ◌&&◌, List, [], ◌∷◌, ◌++◌, eqb, leb, ltb, length, get_or}
+use Rattle.std.specs.Prelude.{ℕ, zero, suc, ◌+◌, ◌*◌, ◌/◌, ◌%◌, ◌≡◌, Bool, cond, List, [], ◌∷◌, ◌++◌, eqb, leb, ltb, length, get_or, Result, Ok, Err}
+use Rattle.std.specs.Result.{result_map_both}
 use Rattle.general.specs.Scatter.{scatter, all}
 use Rattle.planner.specs.Tile.{tile_of, no_tile}
-use Rattle.planner.specs.Held.{answer_number, refused, take_of, give_up_of}
+use Rattle.planner.specs.Held.{answer_number, take_of, number_of, give_up_of}
 use Rattle.planner.specs.declared.tile.Tile.{Tile}
 use Rattle.planner.specs.declared.held.Held.{Held}
-use Rattle.planner.specs.declared.answer.TileAnswer.{TileAnswer}
-use Rattle.planner.specs.declared.answer.TileAnswer.TheVariants.{Done, BadSize, BadHeld, NoFreeTile}
+use Rattle.planner.specs.declared.answer.TileRefusal.{TileRefusal}
+use Rattle.planner.specs.declared.answer.TileRefusal.TheVariants.{BadHeld}
 use Rattle.planner.specs.declared.answer.Taken.{Taken}
-use Rattle.planner.specs.declared.answer.GivenUp.{GivenUp}
 
 -- ---- reading
 
@@ -31,25 +31,24 @@ held_in ns n = record { tiles = tiles_in ns 16; count = n }
 
 -- ---- answering
 
-abbrev pub is_done : TileAnswer → Bool
-is_done Done = true
-is_done BadSize = false
-is_done BadHeld = false
-is_done NoFreeTile = false
-
 -- an array has a place for each of so many tiles
 abbrev pub has_places : List ℕ → ℕ → Bool
 has_places ns n = leb (2 * n) (length ns)
 
 -- a tile that was found needs a place
-abbrev pub if_placed : List ℕ → Held → Taken → Taken
-if_placed ns h r = cond (is_done r.answer && not (has_places ns r.held.count)) (refused BadHeld h) r
+abbrev pub if_placed : List ℕ → Result Taken TileRefusal → Result Taken TileRefusal
+if_placed ns (Ok r) = cond (has_places ns r.held.count) (Ok r) (Err BadHeld)
+if_placed ns (Err e) = Err e
 
-unfoldable pub take_in : List ℕ → ℕ → ℕ → Taken
-take_in ns n m = if_placed ns (held_in ns n) (take_of (held_in ns n) m)
+unfoldable pub take_in : List ℕ → ℕ → ℕ → Result Taken TileRefusal
+take_in ns n m = if_placed ns (take_of (held_in ns n) m)
 
-unfoldable pub give_up_in : List ℕ → ℕ → Tile → GivenUp
+unfoldable pub give_up_in : List ℕ → ℕ → Tile → Result Held TileRefusal
 give_up_in ns n x = give_up_of (held_in ns n) x
+
+-- the held tiles alone
+abbrev pub held_of : Result Taken TileRefusal → Result Held TileRefusal
+held_of a = result_map_both (λ r. r.held) (λ e. e) a
 
 -- ---- writing
 
@@ -61,28 +60,42 @@ number_in h k = let x = get_or h.tiles (k / 2) no_tile in cond (eqb (k % 2) 0) x
 unfoldable pub held_out : List ℕ → Held → List ℕ
 held_out ns h = scatter (λ k. k) all (number_in h) (2 * h.count) ns
 
--- held tiles that are to be written have places
-abbrev pub FitsPlaces : List ℕ → TileAnswer → Held → Type 0
-FitsPlaces ns a h = is_done a ≡ true → (h.count ≤ 16) × (2 * h.count ≤ length ns)
+-- array and count afterwards: those of the held tiles, or as they were where the answer is a refusal
+abbrev pub array_after : List ℕ → Result Held TileRefusal → List ℕ
+array_after ns (Ok h) = held_out ns h
+array_after ns (Err e) = ns
 
--- array and count afterwards: those of the held tiles where the answer is done, else as they were
-abbrev pub array_after : List ℕ → TileAnswer → Held → List ℕ
-array_after ns a h = cond (is_done a) (held_out ns h) ns
-
-abbrev pub count_after : ℕ → TileAnswer → Held → ℕ
-count_after n a h = cond (is_done a) h.count n
+abbrev pub count_after : ℕ → Result Held TileRefusal → ℕ
+count_after n (Ok h) = h.count
+count_after n (Err e) = n
 
 -- ---- promises
 
+-- what an answer leaves in array and count
+pub record Leaves (ns : List ℕ) (n : ℕ) (a : Result Held TileRefusal) (ns' : List ℕ) (n' : ℕ) : Type 0 where
+  pub tiles : ns' ≡ array_after ns a
+  pub count : n' ≡ count_after n a
+
+-- taking gives the tile's number
+pub record TakesLent (ns : List ℕ) (n m : ℕ) (r : Result ℕ TileRefusal) (ns' : List ℕ) (n' : ℕ) : Type 0 where
+  pub answer : r ≡ result_map_both (λ t. t.number) (λ e. e) (take_in ns n m)
+  pub leaves : Leaves ns n (held_of (take_in ns n m)) ns' n'
+
+pub record GivesUpLent (ns : List ℕ) (n : ℕ) (x : Tile) (r : Result (Unit {0}) TileRefusal) (ns' : List ℕ) (n' : ℕ) : Type 0 where
+  pub answer : r ≡ result_map_both (λ _. tt) (λ e. e) (give_up_in ns n x)
+  pub leaves : Leaves ns n (give_up_in ns n x) ns' n'
+
+-- ---- the same in numbers, for C
+
 -- an answer's number, and what it leaves in array and count
-pub record Settles (ns : List ℕ) (n : ℕ) (a : TileAnswer) (h : Held) (r : ℕ) (ns' : List ℕ) (n' : ℕ) : Type 0 where
+pub record Settles (ns : List ℕ) (n : ℕ) (a : Result Held TileRefusal) (r : ℕ) (ns' : List ℕ) (n' : ℕ) : Type 0 where
   pub number : r ≡ answer_number a
-  pub tiles : ns' ≡ array_after ns a h
-  pub count : n' ≡ count_after n a h
+  pub tiles : ns' ≡ array_after ns a
+  pub count : n' ≡ count_after n a
 
 pub record TakesTile (ns : List ℕ) (n m r t : ℕ) (ns' : List ℕ) (n' : ℕ) : Type 0 where
-  pub settles : Settles ns n (take_in ns n m).answer (take_in ns n m).held r ns' n'
-  pub tile : t ≡ (take_in ns n m).number
+  pub settles : Settles ns n (held_of (take_in ns n m)) r ns' n'
+  pub tile : t ≡ number_of (take_in ns n m)
 
 abbrev pub GivesUpTile : List ℕ → ℕ → Tile → ℕ → List ℕ → ℕ → Type 0
-GivesUpTile ns n x r ns' n' = Settles ns n (give_up_in ns n x).answer (give_up_in ns n x).held r ns' n'
+GivesUpTile ns n x r ns' n' = Settles ns n (give_up_in ns n x) r ns' n'

@@ -1,34 +1,35 @@
 -- Laws of lists of held tiles: free tiles, valid lists, and the list that a record holds.
 -- Assumes nothing.
 use Prim.Native.Nat.{ℕ, zero, suc, ◌+◌, ◌-◌, ◌<◌, ◌≤◌}
-use mathlib.Core.Path.{◌≡◌, refl, ap, ◌∙◌}
-use mathlib.Core.Bool.{true, false, ◌&&◌}
+use mathlib.Core.Path.{◌≡◌, refl, sym, ap, ◌∙◌}
+use mathlib.Core.Bool.{Bool, true, false, not, ◌&&◌, ◌||◌}
 use mathlib.Core.List.{List, [], ◌∷◌}
 use native.Mathlib.Omega.{arith}
 use native.Mathlib.Numerals.{add-one}
 use lib.Dec.{leb}
-use lib.ListN.{length, get_or, take, drop, drop_of_length-le}
+use lib.Seq.{take_all}
+use Rattle.std.proofs.Common.{All}
+use Rattle.std.specs.List.{list_any}
+use lib.ListN.{length, get_or, take, drop}
 use lib.Seq.{drop-cons, drop-drop, get_or-take, length-take-le}
 use borrow.Author.Tests.{leb-true}
 use Rattle.general.proofs.BoolLaws.{and_parts, refute, clash}
 use Rattle.planner.specs.Tile.{no_tile, is_tile, shares, is_free, is_valid}
 use Rattle.planner.specs.Held.{held_tiles, valid_held}
-use Rattle.planner.specs.Steps.{TilesFrom}
 use Rattle.planner.specs.declared.tile.Tile.{Tile}
 use Rattle.planner.specs.declared.held.Held.{Held}
 
--- ---- the held tiles from a place on
+-- ---- free tiles
 
-held_end : (ts : List Tile) (n i : ℕ) → n ≤ i → n ≤ length ts → drop i (take n ts) ≡ []
-held_end ts n i w h = drop_of_length-le (take n ts) {i = i} (rw (length-take-le n ts h) w)
-
-pub free_ends : (ts : List Tile) (n i : ℕ) (x : Tile) → n ≤ i → n ≤ length ts → is_free (drop i (take n ts)) x ≡ true
+-- a tile is free where no test of the others shows a byte that both have
+pub free_any : (l : List Tile) (x : Tile) → not (list_any (shares x) l) ≡ is_free l x
 unfolding is_free
-free_ends ts n i x w h = rw (held_end ts n i w h)
-
-pub nothing_valid : (ts : List Tile) (n : ℕ) → n ≤ length ts → is_valid (drop n (take n ts)) ≡ true
-unfolding is_valid
-nothing_valid ts n h = rw (held_end ts n n (omega arith) h)
+free_any [] x = refl
+free_any (y ∷ ys) x = go (shares x y) (free_any ys x)
+  where
+    go : (b : Bool) → not (list_any (shares x) ys) ≡ is_free ys x → not (b || list_any (shares x) ys) ≡ not b && is_free ys x
+    go true e = refl
+    go false e = e
 
 -- ---- valid lists
 
@@ -47,6 +48,50 @@ valid_drop : (i : ℕ) (l : List Tile) → is_valid l ≡ true → is_valid (dro
 valid_drop zero l e = e
 valid_drop (suc i) [] e = e
 valid_drop (suc i) (x ∷ xs) e = valid_drop i xs (valid_head x xs e).2
+
+-- every tile of a valid list exists
+pub valid_exists : (l : List Tile) → is_valid l ≡ true → All (λ y. is_tile y ≡ true) l
+valid_exists [] e k d w = absurd (omega arith)
+valid_exists (x ∷ xs) e zero d w = (valid_head x xs e).0
+valid_exists (x ∷ xs) e (suc k) d w = valid_exists xs (valid_head x xs e).2 k d (omega arith)
+
+-- a list that has a first tile is valid where that exists, is free beside the others, and these are valid
+module _ (ts : List Tile) (some : 1 ≤ length ts) where
+  abbrev pub others : List Tile
+  others = take (length ts - 1) (drop 1 ts)
+
+  abbrev pub first : Tile
+  first = get_or ts 0 no_tile
+
+  pub valid_first : is_valid ts ≡ is_tile first && is_free others first && is_valid others
+  unfolding is_valid
+  valid_first = go ts some
+    where
+      go : (ts : List Tile) → 1 ≤ length ts → is_valid ts ≡ is_tile (get_or ts 0 no_tile) && is_free (take (length ts - 1) (drop 1 ts)) (get_or ts 0 no_tile) && is_valid (take (length ts - 1) (drop 1 ts))
+      go [] s = absurd (omega arith)
+      go (x ∷ xs) s = let e : take (length (x ∷ xs) - 1) xs ≡ xs = take_all (length (x ∷ xs) - 1) xs (omega arith) in rw e
+
+  pub valid_where : (b : Bool) → is_tile first ≡ true → is_valid others ≡ true → b ≡ is_free others first → b ≡ is_valid ts
+  valid_where b p q e = e ∙ sym (valid_first ∙ rw (p, q) (go (is_free others first)))
+    where
+      go : (b : Bool) → b && true ≡ b
+      go true = refl
+      go false = refl
+
+  pub valid_not_first : is_tile first ≡ false → is_valid ts ≡ false
+  valid_not_first p = valid_first ∙ rw p
+
+  pub valid_not_others : is_valid others ≡ false → is_valid ts ≡ false
+  valid_not_others q = valid_first ∙ rw q (go (is_tile first && is_free others first))
+    where
+      go : (b : Bool) → b && false ≡ false
+      go true = refl
+      go false = refl
+
+pub valid_none : (ts : List Tile) → length ts < 1 → is_valid ts ≡ true
+unfolding is_valid
+valid_none [] w = refl
+valid_none (x ∷ xs) w = absurd (omega arith)
 
 -- ---- at place i, with j the place after it
 
@@ -94,8 +139,3 @@ valid_held_lem h v = let p = and_parts (leb h.count 16) (is_valid (held_tiles h)
 
 pub invalid_held : (h : Held) → is_valid (held_tiles h) ≡ false → valid_held h ≡ false
 invalid_held h e = refute _ (λ v. clash _ (valid_held_lem h v).list e)
-
-pub held_tiles_lem : (h : Held) → length h.tiles ≡ 16 → valid_held h ≡ true → TilesFrom h 0
-held_tiles_lem h e v =
-    let p = valid_held_lem h v in
-    (p.few, λ j _ w. valid_tiles h.tiles h.count 0 j p.list (omega arith) w (omega (arith, p.few)))

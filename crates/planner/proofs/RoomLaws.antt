@@ -9,59 +9,60 @@ use mathlib.Core.Logic.{◌⊎◌, inl, inr}
 use native.Mathlib.Omega.{arith}
 use native.Mathlib.Numerals.{add-one}
 use lib.ListN.{length, length-append, get_or, take, set, replicate}
-use lib.Seq.{take-suc, length-take-le, set-append_seam}
+use lib.Seq.{take_all, take-suc, length-take-le, set-append_seam}
+use Rattle.std.proofs.Common.{Result, Ok, Err}
 use Rattle.general.specs.Least.{is_some}
 use Rattle.settings.specs.Answer.{done, out_of_range, no_free_tile, bad_held}
 use Rattle.general.proofs.BoolLaws.{refute, clash, by_test}
 use Rattle.planner.specs.Tile.{no_tile, is_size, is_same, is_among, without, lowest_free}
-use Rattle.planner.specs.Held.{answer_number, held_tiles, valid_held, joined, refused, taken, take_of, TakesOne, held_from, leaving, give_up_of, GivesUpOne}
+use Rattle.planner.specs.Held.{answer_number, held_tiles, valid_held, joined, taken, take_of, TakesOne, held_from, give_up_of, GivesUpOne}
 use Rattle.planner.specs.declared.tile.Tile.{Tile}
 use Rattle.planner.specs.declared.held.Held.{Held}
 use Rattle.planner.specs.declared.answer.Taken.{Taken}
-use Rattle.planner.specs.declared.answer.GivenUp.{GivenUp}
-use Rattle.planner.specs.declared.answer.TileAnswer.TheVariants.{Done, BadSize, BadHeld, NoFreeTile}
+use Rattle.planner.specs.declared.answer.TileRefusal.{TileRefusal}
+use Rattle.planner.specs.declared.answer.TileRefusal.TheVariants.{BadSize, BadHeld, NoFreeTile}
 
 -- ---- taking
 
 module _ (h : Held) (m : ℕ) where
-  pub take_size : is_size m ≡ false → take_of h m ≡ refused BadSize h
+  pub take_size : is_size m ≡ false → take_of h m ≡ Err BadSize
   unfolding take_of
-  take_size e = ap (λ b. cond b (cond (valid_held h) (taken h m (lowest_free (held_tiles h) m)) (refused BadHeld h)) (refused BadSize h)) e
+  take_size e = ap (λ b. cond b (cond (valid_held h) (taken h m (lowest_free (held_tiles h) m)) (Err BadHeld)) (Err BadSize)) e
 
   -- by whether the held tiles are valid
-  by_held : is_size m ≡ true → take_of h m ≡ cond (valid_held h) (taken h m (lowest_free (held_tiles h) m)) (refused BadHeld h)
+  by_held : is_size m ≡ true → take_of h m ≡ cond (valid_held h) (taken h m (lowest_free (held_tiles h) m)) (Err BadHeld)
   unfolding take_of
-  by_held e = ap (λ b. cond b (cond (valid_held h) (taken h m (lowest_free (held_tiles h) m)) (refused BadHeld h)) (refused BadSize h)) e
+  by_held e = ap (λ b. cond b (cond (valid_held h) (taken h m (lowest_free (held_tiles h) m)) (Err BadHeld)) (Err BadSize)) e
 
-  pub take_held : is_size m ≡ true → valid_held h ≡ false → take_of h m ≡ refused BadHeld h
-  take_held e v = by_held e ∙ ap (λ b. cond b (taken h m (lowest_free (held_tiles h) m)) (refused BadHeld h)) v
+  pub take_held : is_size m ≡ true → valid_held h ≡ false → take_of h m ≡ Err BadHeld
+  take_held e v = by_held e ∙ ap (λ b. cond b (taken h m (lowest_free (held_tiles h) m)) (Err BadHeld)) v
 
   by_search : is_size m ≡ true → valid_held h ≡ true → take_of h m ≡ taken h m (lowest_free (held_tiles h) m)
-  by_search e v = by_held e ∙ ap (λ b. cond b (taken h m (lowest_free (held_tiles h) m)) (refused BadHeld h)) v
+  by_search e v = by_held e ∙ ap (λ b. cond b (taken h m (lowest_free (held_tiles h) m)) (Err BadHeld)) v
 
-  pub take_none : is_size m ≡ true → valid_held h ≡ true → lowest_free (held_tiles h) m ≡ none → take_of h m ≡ refused NoFreeTile h
+  pub take_none : is_size m ≡ true → valid_held h ≡ true → lowest_free (held_tiles h) m ≡ none → take_of h m ≡ Err NoFreeTile
   take_none e v n = by_search e v ∙ ap (taken h m) n
 
   pub take_some : (t : ℕ) → is_size m ≡ true → valid_held h ≡ true → lowest_free (held_tiles h) m ≡ some t → take_of h m ≡ taken h m (some t)
   take_some t e v n = by_search e v ∙ ap (taken h m) n
 
   -- what taking gives has the number of its order
-  pub takes_one : (r : Taken) → r ≡ take_of h m → TakesOne h m r
+  pub takes_one : (r : Result Taken TileRefusal) → r ≡ take_of h m → TakesOne h m r
   unfolding take_of
-  takes_one r e = record { equal = e; number = ap (λ (r : Taken). answer_number r.answer) e ∙ go (is_size m) (valid_held h) (lowest_free (held_tiles h) m) }
+  takes_one r e = record { equal = e; number = ap (λ (r : Result Taken TileRefusal). answer_number r) e ∙ go (is_size m) (valid_held h) (lowest_free (held_tiles h) m) }
     where
-      go : (a b : Bool) (o : Option ℕ) → answer_number (cond a (cond b (taken h m o) (refused BadHeld h)) (refused BadSize h)).answer ≡ cond (not a) out_of_range (cond (not b) bad_held (cond (is_some o) done no_free_tile))
+      go : (a b : Bool) (o : Option ℕ) → answer_number (cond a (cond b (taken h m o) (Err BadHeld)) (Err BadSize)) ≡ cond (not a) out_of_range (cond (not b) bad_held (cond (is_some o) done no_free_tile))
       go true true (some t) = refl
       go true true none = refl
       go true false o = refl
       go false b o = refl
 
 -- the same for giving up
-pub gives_up_one : (h : Held) (x : Tile) (r : GivenUp) → r ≡ give_up_of h x → GivesUpOne h x r
+pub gives_up_one : (h : Held) (x : Tile) (r : Result Held TileRefusal) → r ≡ give_up_of h x → GivesUpOne h x r
 unfolding give_up_of
-gives_up_one h x r e = record { equal = e; number = ap (λ (r : GivenUp). answer_number r.answer) e ∙ go (valid_held h && is_among (held_tiles h) x) }
+gives_up_one h x r e = record { equal = e; number = ap (λ (r : Result Held TileRefusal). answer_number r) e ∙ go (valid_held h && is_among (held_tiles h) x) }
   where
-    go : (b : Bool) → answer_number (cond b (leaving Done (held_from (without (held_tiles h) x))) (leaving BadHeld h)).answer ≡ cond b done bad_held
+    go : (b : Bool) → answer_number (cond b (Ok (held_from (without (held_tiles h) x))) (Err BadHeld)) ≡ cond b done bad_held
     go true = refl
     go false = refl
 
@@ -125,39 +126,51 @@ joined_from l y w = λ i. record { tiles = tiles_eq i; count = count_eq i }
     tiles_eq : set (l ++ replicate (16 - length l) no_tile) (length l) y ≡ (l ++ (y ∷ [])) ++ replicate (16 - length (l ++ (y ∷ []))) no_tile
     tiles_eq = rw (place (length l) w, set-append_seam l no_tile (replicate (16 - (length l + 1)) no_tile) y, ← count_eq) (sym (append_assoc l (y ∷ []) _))
 
-pub keep_more : (ts : List Tile) (i : ℕ) (x : Tile) → i < length ts → i < 16 →
-    cond (is_same (get_or ts i no_tile) x) (held_from (without (take i ts) x)) (joined (held_from (without (take i ts) x)) (get_or ts i no_tile))
-    ≡ held_from (without (take (i + 1) ts) x)
-keep_more ts i x w v =
-    go (is_same y x) ∙ ap held_from (sym (without_last (take i ts) y x) ∙ ap (λ k. without k x) (sym (rw (add-one i) (take-suc ts i no_tile w))))
-  where
-    y : Tile
-    y = get_or ts i no_tile
+-- one tile of a list more, unless it is the one to give up
+module _ (l : List Tile) (i : ℕ) (x : Tile) (w : i < length l) where
+  abbrev y : Tile
+  y = get_or l i no_tile
 
-    short : length (without (take i ts) x) < 16
-    short = omega (arith, without_length (take i ts) x, length-take-le i ts (omega arith))
+  more : without (take (i + 1) l) x ≡ cond (is_same y x) (without (take i l) x) (without (take i l) x ++ (y ∷ []))
+  more = ap (λ k. without k x) (rw (add-one i) (take-suc l i no_tile w)) ∙ without_last (take i l) y x
 
-    go : (b : Bool) → cond b (held_from (without (take i ts) x)) (joined (held_from (without (take i ts) x)) y) ≡
-        held_from (cond b (without (take i ts) x) (without (take i ts) x ++ (y ∷ [])))
-    go true = refl
-    go false = joined_from (without (take i ts) x) y short
+  pub keep_same : not (is_same y x) ≡ false → held_from (without (take i l) x) ≡ held_from (without (take (i + 1) l) x)
+  keep_same e = ap held_from (sym (more ∙ go (is_same y x) e))
+    where
+      go : (b : Bool) → not b ≡ false → cond b (without (take i l) x) (without (take i l) x ++ (y ∷ [])) ≡ without (take i l) x
+      go true q = refl
+      go false q = absurd (clash true refl q)
+
+  pub keep_other : not (is_same y x) ≡ true → i < 16 → joined (held_from (without (take i l) x)) y ≡ held_from (without (take (i + 1) l) x)
+  keep_other e v = joined_from (without (take i l) x) y short ∙ ap held_from (sym (more ∙ go (is_same y x) e))
+    where
+      short : length (without (take i l) x) < 16
+      short = omega (arith, without_length (take i l) x, length-take-le i l (omega arith))
+
+      go : (b : Bool) → not b ≡ true → cond b (without (take i l) x) (without (take i l) x ++ (y ∷ [])) ≡ without (take i l) x ++ (y ∷ [])
+      go true q = absurd (clash false q refl)
+      go false q = refl
+
+-- all of them
+pub kept_all : (l : List Tile) (i : ℕ) (x : Tile) (k : Held) → k ≡ held_from (without (take i l) x) → length l ≤ i → k ≡ held_from (without l x)
+kept_all l i x k e w = e ∙ ap (λ l. held_from (without l x)) (take_all i l w)
 
 -- ---- giving up
 
 module _ (h : Held) (x : Tile) where
-  pub give_up_done : valid_held h ≡ true → is_among (held_tiles h) x ≡ true → give_up_of h x ≡ leaving Done (held_from (without (held_tiles h) x))
+  pub give_up_done : valid_held h ≡ true → is_among (held_tiles h) x ≡ true → give_up_of h x ≡ Ok (held_from (without (held_tiles h) x))
   unfolding give_up_of
   give_up_done v e = rw (v, e)
 
-  pub give_up_invalid : valid_held h ≡ false → give_up_of h x ≡ leaving BadHeld h
+  pub give_up_invalid : valid_held h ≡ false → give_up_of h x ≡ Err BadHeld
   unfolding give_up_of
   give_up_invalid e = rw e
 
-  pub give_up_unheld : is_among (held_tiles h) x ≡ false → give_up_of h x ≡ leaving BadHeld h
+  pub give_up_unheld : is_among (held_tiles h) x ≡ false → give_up_of h x ≡ Err BadHeld
   unfolding give_up_of
   give_up_unheld e = go (valid_held h)
     where
-      go : (b : Bool) → cond (b && is_among (held_tiles h) x) (leaving Done (held_from (without (held_tiles h) x))) (leaving BadHeld h) ≡ leaving BadHeld h
+      go : (b : Bool) → cond (b && is_among (held_tiles h) x) (Ok (held_from (without (held_tiles h) x))) (Err BadHeld) ≡ Err BadHeld
       go true = rw e
       go false = refl
 

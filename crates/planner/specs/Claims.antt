@@ -1,16 +1,16 @@
 -- The theorems about taking a tile and giving one up, as statements in bytes of ZA, and that the promises leave nothing open; proofs/Claims.antt
 -- proves each. Renders request 9.
 -- Assumes nothing.
-use Rattle.std.specs.Prelude.{ℕ, ◌<◌, ◌≤◌, ◌≡◌, true, false, List, [], ◌∷◌, ◌++◌, ◌⊎◌, length}
+use Rattle.std.specs.Prelude.{ℕ, ◌<◌, ◌≤◌, ◌≡◌, true, false, List, [], ◌∷◌, ◌++◌, ◌⊎◌, length, Result, Ok, Err, IsOk}
 use Rattle.general.specs.Determined.{Determined, Met, IsOneOf}
 use Rattle.planner.specs.Tile.{tile_of, is_size, is_tile}
-use Rattle.planner.specs.Held.{answer_number, held_tiles, held_from, valid_held, take_of, TakesOne, give_up_of, GivesUpOne}
+use Rattle.planner.specs.Held.{answer_number, held_tiles, held_from, valid_held, take_of, number_of, held_after, TakesOne, give_up_of, held_left, GivesUpOne}
 use Rattle.planner.specs.Bytes.{Vectors, ByteShared, Halves, tile_at, Apart, SharedBy}
 use Rattle.planner.specs.declared.tile.Tile.{Tile}
 use Rattle.planner.specs.declared.held.Held.{Held}
-use Rattle.planner.specs.declared.answer.TileAnswer.TheVariants.{Done, BadSize, BadHeld, NoFreeTile}
+use Rattle.planner.specs.declared.answer.TileRefusal.{TileRefusal}
+use Rattle.planner.specs.declared.answer.TileRefusal.TheVariants.{BadSize, BadHeld, NoFreeTile}
 use Rattle.planner.specs.declared.answer.Taken.{Taken}
-use Rattle.planner.specs.declared.answer.GivenUp.{GivenUp}
 
 -- a record of held tiles has sixteen places, as its type says
 abbrev pub Sixteen : Held → Type 0
@@ -24,10 +24,10 @@ ValidHeldIsApart =
 
 -- 8 first, then 16, and otherwise 0 or 13; a refusal gives tile 0 and leaves the record
 pub record Answers (h : Held) (m : ℕ) : Type 0 where
-  pub size : is_size m ≡ false → (take_of h m).answer ≡ BadSize
-  pub bad : is_size m ≡ true → valid_held h ≡ false → (take_of h m).answer ≡ BadHeld
-  pub good : is_size m ≡ true → valid_held h ≡ true → ((take_of h m).answer ≡ Done) ⊎ ((take_of h m).answer ≡ NoFreeTile)
-  pub refused : ((take_of h m).answer ≡ Done → ⊥) → ((take_of h m).number ≡ 0) × ((take_of h m).held ≡ h)
+  pub size : is_size m ≡ false → take_of h m ≡ Err BadSize
+  pub bad : is_size m ≡ true → valid_held h ≡ false → take_of h m ≡ Err BadHeld
+  pub good : is_size m ≡ true → valid_held h ≡ true → IsOk (take_of h m) ⊎ (take_of h m ≡ Err NoFreeTile)
+  pub refused : (IsOk (take_of h m) → ⊥) → (number_of (take_of h m) ≡ 0) × (held_after h (take_of h m) ≡ h)
 
 abbrev pub TakingAnswers : Type 0
 TakingAnswers = (h : Held) (m : ℕ) → Answers h m
@@ -43,8 +43,7 @@ pub record Takes (S B : ℕ) (h : Held) (m t : ℕ) (h' : Held) : Type 0 where
 
 abbrev pub TakingTakes : Type 0
 TakingTakes =
-    (S B : ℕ) (h : Held) (m : ℕ) → Vectors S B → Sixteen h → (take_of h m).answer ≡ Done →
-    Takes S B h m (take_of h m).number (take_of h m).held
+    (S B : ℕ) (h : Held) (m : ℕ) (r : Taken) → Vectors S B → Sixteen h → take_of h m ≡ Ok r → Takes S B h m r.number r.held
 
 -- 13 exactly when the size and the held tiles are good and every tile of the size shares a byte with a held one
 pub record Full (S B : ℕ) (h : Held) (m : ℕ) : Type 0 where
@@ -55,12 +54,12 @@ pub record Full (S B : ℕ) (h : Held) (m : ℕ) : Type 0 where
 abbrev pub NoFreeIsFull : Type 0
 NoFreeIsFull =
     (S B : ℕ) (h : Held) (m : ℕ) → Vectors S B → Sixteen h →
-    ((take_of h m).answer ≡ NoFreeTile → Full S B h m) × (Full S B h m → (take_of h m).answer ≡ NoFreeTile)
+    (take_of h m ≡ Err NoFreeTile → Full S B h m) × (Full S B h m → take_of h m ≡ Err NoFreeTile)
 
 -- a tile can be given up exactly if the held ones are valid and it is one of them; a refusal is 16 and leaves the record
 pub record GivingUp (h : Held) : Type 0 where
-  pub held : valid_held h ≡ true → (k : ℕ) → k < length (held_tiles h) → (give_up_of h (tile_at (held_tiles h) k)).answer ≡ Done
-  pub refused : (x : Tile) → ((give_up_of h x).answer ≡ Done → ⊥) → ((give_up_of h x).answer ≡ BadHeld) × ((give_up_of h x).held ≡ h)
+  pub held : valid_held h ≡ true → (k : ℕ) → k < length (held_tiles h) → IsOk (give_up_of h (tile_at (held_tiles h) k))
+  pub refused : (x : Tile) → (IsOk (give_up_of h x) → ⊥) → (give_up_of h x ≡ Err BadHeld) × (held_left h (give_up_of h x) ≡ h)
 
 abbrev pub GivingUpAnswers : Type 0
 GivingUpAnswers = (h : Held) → GivingUp h
@@ -76,33 +75,34 @@ pub record GivesUp (h : Held) (x : Tile) (h' : Held) : Type 0 where
   pub valid : valid_held h' ≡ true
 
 abbrev pub GivingUpGives : Type 0
-GivingUpGives = (h : Held) (x : Tile) → Sixteen h → (give_up_of h x).answer ≡ Done → GivesUp h x (give_up_of h x).held
+GivingUpGives = (h : Held) (x : Tile) (h' : Held) → Sixteen h → give_up_of h x ≡ Ok h' → GivesUp h x h'
 
 -- a tile that was taken can be given up, and the held ones are then those from before
 pub record Undone (h : Held) (x : Tile) (h' : Held) : Type 0 where
-  pub done : (give_up_of h' x).answer ≡ Done
-  pub held : held_tiles (give_up_of h' x).held ≡ held_tiles h
+  pub left : Held
+  pub done : give_up_of h' x ≡ Ok left
+  pub held : held_tiles left ≡ held_tiles h
 
 abbrev pub TakingUndone : Type 0
-TakingUndone = (h : Held) (m : ℕ) → Sixteen h → (take_of h m).answer ≡ Done → Undone h (tile_of m (take_of h m).number) (take_of h m).held
+TakingUndone = (h : Held) (m : ℕ) (r : Taken) → Sixteen h → take_of h m ≡ Ok r → Undone h (tile_of m r.number) r.held
 
 -- when a tile has been given up, one of its size can be taken
 abbrev pub GivenUpRetaken : Type 0
-GivenUpRetaken = (h : Held) (x : Tile) → Sixteen h → (give_up_of h x).answer ≡ Done → (take_of (give_up_of h x).held x.bytes).answer ≡ Done
+GivenUpRetaken = (h : Held) (x : Tile) (h' : Held) → Sixteen h → give_up_of h x ≡ Ok h' → IsOk (take_of h' x.bytes)
 
 -- ---- the promises leave nothing open: each statement is from the promise alone, whichever function meets it
 
 pub record TakesOneDetermines (h : Held) (m : ℕ) : Type 0 where
   pub met : Met (TakesOne h m)
   pub determined : Determined (TakesOne h m)
-  pub numbers : (r : Taken) → TakesOne h m r → IsOneOf (0 ∷ 8 ∷ 13 ∷ 16 ∷ []) (answer_number r.answer)
-  pub refused : (r : Taken) → TakesOne h m r → (answer_number r.answer ≡ 0 → ⊥) → (r.number ≡ 0) × (r.held ≡ h)
+  pub numbers : (r : Result Taken TileRefusal) → TakesOne h m r → IsOneOf (0 ∷ 8 ∷ 13 ∷ 16 ∷ []) (answer_number r)
+  pub refused : (r : Result Taken TileRefusal) → TakesOne h m r → (answer_number r ≡ 0 → ⊥) → (number_of r ≡ 0) × (held_after h r ≡ h)
 
 pub record GivesUpOneDetermines (h : Held) (x : Tile) : Type 0 where
   pub met : Met (GivesUpOne h x)
   pub determined : Determined (GivesUpOne h x)
-  pub numbers : (r : GivenUp) → GivesUpOne h x r → IsOneOf (0 ∷ 16 ∷ []) (answer_number r.answer)
-  pub refused : (r : GivenUp) → GivesUpOne h x r → (answer_number r.answer ≡ 0 → ⊥) → r.held ≡ h
+  pub numbers : (r : Result Held TileRefusal) → GivesUpOne h x r → IsOneOf (0 ∷ 16 ∷ []) (answer_number r)
+  pub refused : (r : Result Held TileRefusal) → GivesUpOne h x r → (answer_number r ≡ 0 → ⊥) → held_left h r ≡ h
 
 pub record HeldDetermines : Type 0 where
   pub takes : (h : Held) (m : ℕ) → TakesOneDetermines h m
@@ -123,4 +123,4 @@ pub record Shown : Type 0 where
   pub full : Full 256 32 (held_from shown_held) 2
   pub given : GivesUp (held_from shown_held) (tile_of 4 1) (held_from (tile_of 8 0 ∷ []))
   pub undone : Undone (held_from shown_held) (tile_of 4 2) (held_from (shown_held ++ (tile_of 4 2 ∷ [])))
-  pub retaken : (take_of (held_from (tile_of 8 0 ∷ [])) 4).answer ≡ Done
+  pub retaken : IsOk (take_of (held_from (tile_of 8 0 ∷ [])) 4)

@@ -1,12 +1,11 @@
 -- Worked examples of taking and giving up, computed from the definitions. Request 9 has none; these are worked from 01 §3: tile t of m bytes
 -- is ZA's vectors t, t + m, t + 2m and so on. To believe: the literal answers and tiles.
 -- Assumes nothing.
-use Rattle.std.specs.Prelude.{ℕ, ◌≡◌, List, [], ◌∷◌, map, take, replicate}
+use Rattle.std.specs.Prelude.{ℕ, ◌≡◌, List, [], ◌∷◌, map, take, replicate, Ok}
 use Rattle.planner.specs.Tile.{tile_of, no_tile}
-use Rattle.planner.specs.Held.{answer_number, held_tiles, held_from, take_of, give_up_of}
+use Rattle.planner.specs.Held.{answer_number, held_tiles, held_from, take_of, number_of, held_after, give_up_of, held_left}
 use Rattle.planner.specs.declared.tile.Tile.{Tile}
 use Rattle.planner.specs.declared.held.Held.{Held}
-use Rattle.planner.specs.declared.answer.TileAnswer.TheVariants.{Done, BadSize, BadHeld, NoFreeTile}
 
 -- tiles as pairs of numbers, bytes and number
 abbrev pub numbers_of : List Tile → List ℕ
@@ -15,15 +14,23 @@ numbers_of (x ∷ xs) = x.bytes ∷ x.number ∷ numbers_of xs
 
 -- the answer's number, the tile's number, and the held tiles afterwards
 abbrev pub asks : Held → ℕ → List ℕ
-asks h m = let r = take_of h m in answer_number r.answer ∷ r.number ∷ numbers_of (held_tiles r.held)
+asks h m = let r = take_of h m in answer_number r ∷ number_of r ∷ numbers_of (held_tiles (held_after h r))
 
 -- the answer's number, and the held tiles afterwards
 abbrev pub gives : Held → Tile → List ℕ
-gives h x = let r = give_up_of h x in answer_number r.answer ∷ numbers_of (held_tiles r.held)
+gives h x = let r = give_up_of h x in answer_number r ∷ numbers_of (held_tiles (held_left h r))
 
 -- the answer's number and the tile's
 abbrev pub answers : List Tile → List ℕ → List (List ℕ)
-answers l ms = map (λ m. let r = take_of (held_from l) m in answer_number r.answer ∷ r.number ∷ []) ms
+answers l ms = map (λ m. let r = take_of (held_from l) m in answer_number r ∷ number_of r ∷ []) ms
+
+-- the answer's number, the tile's number, and the whole record afterwards
+abbrev pub asks_whole : Held → ℕ → ℕ × ℕ × Held
+asks_whole h m = let r = take_of h m in (answer_number r, number_of r, held_after h r)
+
+-- the answer's number, and the whole record afterwards
+abbrev pub gives_whole : Held → Tile → ℕ × Held
+gives_whole h x = let r = give_up_of h x in (answer_number r, held_left h r)
 
 abbrev pub every_size : List ℕ
 every_size = 1 ∷ 2 ∷ 4 ∷ 8 ∷ 16 ∷ []
@@ -73,24 +80,24 @@ pub record TakingExamplesHold : Type 0 where
       (tile_of 16 0 ∷ tile_of 8 3 ∷ tile_of 16 1 ∷ tile_of 16 11 ∷ []) ∷ (tile_of 1 0 ∷ tile_of 1 0 ∷ []) ∷ []) ≡
       replicate 5 ((16 ∷ 0 ∷ []) ∷ [])
   -- a count above sixteen: 16, but 8 comes first
-  pub counts : map (λ n. answer_number (take_of (counted n) 16).answer) above_sixteen ≡ replicate 6 16
-  pub counts_given : map (λ n. answer_number (give_up_of (counted n) (tile_of 16 15)).answer) above_sixteen ≡ replicate 6 16
-  pub counts_size : map (λ n. answer_number (take_of (counted n) 3).answer) above_sixteen ≡ replicate 6 8
+  pub counts : map (λ n. answer_number (take_of (counted n) 16)) above_sixteen ≡ replicate 6 16
+  pub counts_given : map (λ n. answer_number (give_up_of (counted n) (tile_of 16 15))) above_sixteen ≡ replicate 6 16
+  pub counts_size : map (λ n. answer_number (take_of (counted n) 3)) above_sixteen ≡ replicate 6 8
   -- a refusal gives tile 0 and leaves the whole record
-  pub kept_size : take_of (cluttered 1) 3 ≡ record { answer = BadSize; number = 0; held = cluttered 1 }
-  pub kept_full : take_of (cluttered 1) 4 ≡ record { answer = NoFreeTile; number = 0; held = cluttered 1 }
-  pub kept_bad : take_of (cluttered 2) 4 ≡ record { answer = BadHeld; number = 0; held = cluttered 2 }
-  pub kept_count : take_of (cluttered 17) 4 ≡ record { answer = BadHeld; number = 0; held = cluttered 17 }
-  pub kept_given : give_up_of (cluttered 1) (tile_of 3 9) ≡ record { answer = BadHeld; held = cluttered 1 }
-  pub kept_given_count : give_up_of (cluttered 17) (tile_of 1 0) ≡ record { answer = BadHeld; held = cluttered 17 }
+  pub kept_size : asks_whole (cluttered 1) 3 ≡ (8, 0, cluttered 1)
+  pub kept_full : asks_whole (cluttered 1) 4 ≡ (13, 0, cluttered 1)
+  pub kept_bad : asks_whole (cluttered 2) 4 ≡ (16, 0, cluttered 2)
+  pub kept_count : asks_whole (cluttered 17) 4 ≡ (16, 0, cluttered 17)
+  pub kept_given : gives_whole (cluttered 1) (tile_of 3 9) ≡ (16, cluttered 1)
+  pub kept_given_count : gives_whole (cluttered 17) (tile_of 1 0) ≡ (16, cluttered 17)
   -- what stands after the held tiles does not count, and stays
-  pub after : (take_of (record { tiles = tile_of 8 1 ∷ tile_of 3 9 ∷ tile_of 8 1 ∷ replicate 13 no_tile; count = 1 }) 8).held.tiles ≡
-      tile_of 8 1 ∷ tile_of 8 0 ∷ tile_of 8 1 ∷ replicate 13 no_tile
+  pub after : take_of (record { tiles = tile_of 8 1 ∷ tile_of 3 9 ∷ tile_of 8 1 ∷ replicate 13 no_tile; count = 1 }) 8 ≡
+      Ok (record { number = 0; held = record { tiles = tile_of 8 1 ∷ tile_of 8 0 ∷ tile_of 8 1 ∷ replicate 13 no_tile; count = 2 } })
   -- the tile that is given up goes, and the others stay in their order, with no tile after them
   pub given : gives (held_from (tile_of 4 1 ∷ tile_of 8 0 ∷ tile_of 4 3 ∷ [])) (tile_of 8 0) ≡ 0 ∷ 4 ∷ 1 ∷ 4 ∷ 3 ∷ []
   pub order : gives (held_from (tile_of 4 1 ∷ tile_of 8 0 ∷ tile_of 4 3 ∷ [])) (tile_of 4 1) ≡ 0 ∷ 8 ∷ 0 ∷ 4 ∷ 3 ∷ []
   pub fifteen : gives (held_from every_part) (tile_of 16 15) ≡ 0 ∷ numbers_of (take 15 every_part)
-  pub cleared : give_up_of (cluttered 1) (tile_of 1 0) ≡ record { answer = Done; held = record { tiles = replicate 16 no_tile; count = 0 } }
+  pub cleared : give_up_of (cluttered 1) (tile_of 1 0) ≡ Ok (record { tiles = replicate 16 no_tile; count = 0 })
   -- not held: another number, another size, a half of a held tile, no tile at all
   pub unheld : map (gives (held_from (tile_of 4 1 ∷ tile_of 8 0 ∷ []))) (tile_of 4 0 ∷ tile_of 8 1 ∷ tile_of 16 1 ∷ tile_of 2 1 ∷ tile_of 3 1 ∷ no_tile ∷ []) ≡
       replicate 6 (16 ∷ 4 ∷ 1 ∷ 8 ∷ 0 ∷ [])

@@ -1,25 +1,28 @@
 -- Held tiles, taking one more and giving one up. Renders request 9.
 -- To believe: the order of the refusals, 8, 16 and 13 for taking and 16 alone for giving up; that a count above sixteen is 16; that a refusal gives
--- tile 0 and leaves the record as it was. A tile that is taken stands after the others, and no tile after those that giving up leaves (docs/DECISIONS.md).
+-- tile 0 and leaves the record as it was (`number_of`, `held_after`, `held_left`). A tile that is taken stands after the others, and no tile after those that giving up leaves (docs/DECISIONS.md).
 -- Assumes nothing.
-use Rattle.std.specs.Prelude.{ℕ, ◌+◌, ◌-◌, ◌≡◌, Bool, cond, not, ◌&&◌, List, ◌++◌, leb, length, take, set, replicate}
+use Rattle.std.specs.Prelude.{ℕ, ◌+◌, ◌-◌, ◌≡◌, Bool, cond, not, ◌&&◌, List, ◌++◌, leb, length, take, set, replicate, Result, Ok, Err}
 use Rattle.std.proofs.Math.Option.{Option, none, some}
 use Rattle.general.specs.Least.{is_some}
 use Rattle.settings.specs.Answer.{done, out_of_range, no_free_tile, bad_held}
 use Rattle.planner.specs.Tile.{tile_of, no_tile, is_size, is_valid, lowest_free, is_among, without}
 use Rattle.planner.specs.declared.tile.Tile.{Tile}
 use Rattle.planner.specs.declared.held.Held.{Held}
-use Rattle.planner.specs.declared.answer.TileAnswer.{TileAnswer}
-use Rattle.planner.specs.declared.answer.TileAnswer.TheVariants.{Done, BadSize, BadHeld, NoFreeTile}
+use Rattle.planner.specs.declared.answer.TileRefusal.{TileRefusal}
+use Rattle.planner.specs.declared.answer.TileRefusal.TheVariants.{BadSize, BadHeld, NoFreeTile}
 use Rattle.planner.specs.declared.answer.Taken.{Taken}
-use Rattle.planner.specs.declared.answer.GivenUp.{GivenUp}
 
--- the numbers of the answers
-abbrev pub answer_number : TileAnswer → ℕ
-answer_number Done = done
-answer_number BadSize = out_of_range
-answer_number BadHeld = bad_held
-answer_number NoFreeTile = no_free_tile
+-- the numbers of the refusals
+abbrev pub refusal_number : TileRefusal → ℕ
+refusal_number BadSize = out_of_range
+refusal_number BadHeld = bad_held
+refusal_number NoFreeTile = no_free_tile
+
+-- the number of an answer
+abbrev pub answer_number : {A : Type 0} → Result A TileRefusal → ℕ
+answer_number (Ok x) = done
+answer_number (Err e) = refusal_number e
 
 -- the tiles that a record holds: the first `count` of its sixteen
 abbrev pub held_tiles : Held → List Tile
@@ -35,25 +38,31 @@ valid_held h = leb h.count 16 && is_valid (held_tiles h)
 abbrev pub joined : Held → Tile → Held
 joined h x = record { tiles = set h.tiles h.count x; count = h.count + 1 }
 
-abbrev pub refused : TileAnswer → Held → Taken
-refused a h = record { answer = a; number = 0; held = h }
-
-abbrev pub taken : Held → ℕ → Option ℕ → Taken
-taken h m none = refused NoFreeTile h
-taken h m (some t) = record { answer = Done; number = t; held = joined h (tile_of m t) }
+abbrev pub taken : Held → ℕ → Option ℕ → Result Taken TileRefusal
+taken h m none = Err NoFreeTile
+taken h m (some t) = Ok (record { number = t; held = joined h (tile_of m t) })
 
 -- what asking for a tile of m bytes gives
-unfoldable pub take_of : Held → ℕ → Taken
-take_of h m = cond (is_size m) (cond (valid_held h) (taken h m (lowest_free (held_tiles h) m)) (refused BadHeld h)) (refused BadSize h)
+unfoldable pub take_of : Held → ℕ → Result Taken TileRefusal
+take_of h m = cond (is_size m) (cond (valid_held h) (taken h m (lowest_free (held_tiles h) m)) (Err BadHeld)) (Err BadSize)
+
+-- the tile that an answer gives, and the held tiles after it: with a refusal tile 0, and the held tiles as they were
+abbrev pub number_of : Result Taken TileRefusal → ℕ
+number_of (Ok r) = r.number
+number_of (Err e) = 0
+
+abbrev pub held_after : Held → Result Taken TileRefusal → Held
+held_after h (Ok r) = r.held
+held_after h (Err e) = h
 
 -- the number of the answer, by the order of request 9: 8, then 16, then 13
 abbrev pub take_number : Held → ℕ → ℕ
 take_number h m = cond (not (is_size m)) out_of_range (cond (not (valid_held h)) bad_held (cond (is_some (lowest_free (held_tiles h) m)) done no_free_tile))
 
 -- what taking promises: the result, and the number of its answer
-pub record TakesOne (h : Held) (m : ℕ) (r : Taken) : Type 0 where
+pub record TakesOne (h : Held) (m : ℕ) (r : Result Taken TileRefusal) : Type 0 where
   pub equal : r ≡ take_of h m
-  pub number : answer_number r.answer ≡ take_number h m
+  pub number : answer_number r ≡ take_number h m
 
 -- ---- giving up
 
@@ -61,18 +70,19 @@ pub record TakesOne (h : Held) (m : ℕ) (r : Taken) : Type 0 where
 abbrev pub held_from : List Tile → Held
 held_from l = record { tiles = l ++ replicate (16 - length l) no_tile; count = length l }
 
--- an answer to giving up, with the held tiles that it leaves
-abbrev pub leaving : TileAnswer → Held → GivenUp
-leaving a h = record { answer = a; held = h }
-
 -- what giving up a tile gives
-unfoldable pub give_up_of : Held → Tile → GivenUp
-give_up_of h x = cond (valid_held h && is_among (held_tiles h) x) (leaving Done (held_from (without (held_tiles h) x))) (leaving BadHeld h)
+unfoldable pub give_up_of : Held → Tile → Result Held TileRefusal
+give_up_of h x = cond (valid_held h && is_among (held_tiles h) x) (Ok (held_from (without (held_tiles h) x))) (Err BadHeld)
+
+-- the held tiles after it, with a refusal as they were
+abbrev pub held_left : Held → Result Held TileRefusal → Held
+held_left h (Ok k) = k
+held_left h (Err e) = h
 
 abbrev pub give_up_number : Held → Tile → ℕ
 give_up_number h x = cond (valid_held h && is_among (held_tiles h) x) done bad_held
 
 -- what giving up promises: the result, and the number of its answer
-pub record GivesUpOne (h : Held) (x : Tile) (r : GivenUp) : Type 0 where
+pub record GivesUpOne (h : Held) (x : Tile) (r : Result Held TileRefusal) : Type 0 where
   pub equal : r ≡ give_up_of h x
-  pub number : answer_number r.answer ≡ give_up_number h x
+  pub number : answer_number r ≡ give_up_number h x

@@ -1,65 +1,58 @@
 // The tiles that a kernel holds.
-ghost use Rattle.std.specs.Prelude.{◌≡◌, true, ◌<◌, ◌≤◌, drop};
-ghost use Rattle.planner.specs.Tile.{is_tile, is_free};
-ghost use Rattle.planner.specs.Held.{held_tiles, valid_held, joined};
-ghost use Rattle.planner.specs.Steps.{TilesFrom};
+ghost use Rattle.std.specs.Prelude.{◌≡◌, true, ◌<◌, All};
+ghost use Rattle.planner.specs.Tile.{is_tile, is_free, is_valid};
+ghost use Rattle.planner.specs.Held.{valid_held, joined};
 
 use crate::tile::{Tile, is_shared, is_tile};
 
 // The first `count` of sixteen tiles: no more can be held, since no more can share no byte.
+// An array with a count, and no `ArrayVec`: `counts`, `kept_count` and `many` (specs/Examples.antt here, specs/Claims.antt of lent_tiles) are of counts above sixteen.
 #[derive(Clone, Copy)]
 pub struct Held {
     pub tiles: [Tile; 16],
     pub count: usize,
 }
 
-// Whether a tile shares no byte with those that are held from place `from` on.
-pub fn is_free(held: Held, from: usize, x: Tile) -> bool
-    requires { (from ≤ held.count) × (is_tile x ≡ true) × TilesFrom held from }
-    ensures { result ≡ is_free (drop from (held_tiles held)) x }
-{
-    let n = held.count;
-    let mut i = from;
-    while i < n {
-        let y = held.tiles[i];
-        if is_shared(x, y) {
-            return false;
-        }
-        i += 1;
+impl Held {
+    // No tile is held.
+    pub const NONE: Held = Held {
+        tiles: [Tile::NONE; 16],
+        count: 0,
+    };
+
+    // Whether every held tile exists and no two share a byte.
+    pub(crate) fn is_valid(&self) -> bool
+        ensures { result ≡ valid_held self.now }
+    {
+        self.count <= 16 && is_valid(&self.tiles[..self.count])
     }
-    true
+
+    // One tile more, after the others.
+    pub(crate) fn join(self, x: Tile) -> Held
+        requires { self.count < 16 }
+        ensures { result ≡ joined self x }
+    {
+        let mut next = self;
+        next.tiles[self.count] = x;
+        next.count += 1;
+        next
+    }
 }
 
-// Whether every held tile exists and no two share a byte: from the last one back, each with those after it.
-pub fn is_valid(held: Held) -> bool
-    ensures { result ≡ valid_held held }
+// Whether a tile shares no byte with others.
+pub fn is_free(others: &[Tile], x: Tile) -> bool
+    requires { (is_tile x ≡ true) × All (λ y. is_tile y ≡ true) others.now }
+    ensures { result ≡ is_free others.now x }
 {
-    let n = held.count;
-    if 16 < n {
-        return false;
-    }
-    let mut i = n;
-    while 0 < i {
-        let x = held.tiles[i - 1];
-        if !is_tile(x) {
-            return false;
-        }
-        if !is_free(held, i, x) {
-            return false;
-        }
-        i -= 1;
-    }
-    true
+    !others.iter().any(|y| is_shared(x, *y))
 }
 
-// One tile more, after the others.
-pub fn join(held: Held, x: Tile) -> Held
-    requires { held.count < 16 }
-    ensures { result ≡ joined held x }
+// Whether tiles exist and no two share a byte.
+fn is_valid(tiles: &[Tile]) -> bool
+    ensures { result ≡ is_valid tiles.now }
 {
-    let n = held.count;
-    let mut next = held;
-    next.tiles[n] = x;
-    next.count = n + 1;
-    next
+    match tiles {
+        [] => true,
+        [x, others @ ..] => is_valid(others) && is_tile(*x) && is_free(others, *x),
+    }
 }

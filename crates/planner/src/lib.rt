@@ -8,7 +8,7 @@ mod held;
 mod taking;
 mod tile;
 
-pub use answer::{GivenUp, Taken, TileAnswer};
+pub use answer::{Taken, TileRefusal};
 pub use giving_up::give_up;
 pub use held::Held;
 pub use taking::take;

@@ -1,44 +1,23 @@
 // Taking one more tile.
-ghost use Rattle.std.specs.Prelude.{◌≡◌};
-ghost use Rattle.planner.specs.Held.{refused, TakesOne};
+ghost use Rattle.planner.specs.Held.{TakesOne};
 
-use crate::answer::{Taken, TileAnswer};
+use crate::answer::{Taken, TileRefusal};
 use crate::free::lowest_free;
-use crate::held::{Held, is_valid, join};
+use crate::held::Held;
 use crate::tile::{Tile, is_size};
 
-fn refuse(answer: TileAnswer, held: Held) -> Taken
-    ensures { result ≡ refused answer held }
-{
-    Taken {
-        answer: answer,
-        number: 0,
-        held: held,
-    }
-}
-
 // The lowest-numbered tile with elements of so many bytes that shares no byte with a held one; it joins them.
-pub fn take(held: Held, bytes: u64) -> Taken
+pub fn take(held: Held, bytes: u64) -> Result<Taken, TileRefusal>
     ensures { TakesOne held bytes result }
 {
     if !is_size(bytes) {
-        return refuse(TileAnswer::BadSize, held);
+        return Err(TileRefusal::BadSize);
     }
-    if !is_valid(held) {
-        return refuse(TileAnswer::BadHeld, held);
+    if !held.is_valid() {
+        return Err(TileRefusal::BadHeld);
     }
-    let number = lowest_free(held, 16 / bytes, 16, 0);
-    if number == 16 {
-        return refuse(TileAnswer::NoFreeTile, held);
-    }
-    let x = Tile {
-        bytes: bytes,
-        number: number,
-    };
-    let joined = join(held, x);
-    Taken {
-        answer: TileAnswer::Done,
-        number: number,
-        held: joined,
-    }
+    let tiles = &held.tiles[..held.count];
+    let number = lowest_free(tiles, 16 / bytes, 16, 0).ok_or(TileRefusal::NoFreeTile)?;
+    let held = held.join(Tile { bytes, number });
+    Ok(Taken { number, held })
 }

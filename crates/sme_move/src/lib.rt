@@ -142,7 +142,12 @@ pub extern "C" fn sme_take_tile(
 ) -> u32
     ensures { TakesTile tiles.old count.old element_bytes result tile.new tiles.new count.new }
 {
-    lent_tiles::take_tile(tiles, count, element_bytes, tile)
+    let taken = lent_tiles::take_tile(tiles, count, element_bytes);
+    *tile = taken.unwrap_or(0);
+    match taken {
+        Ok(_) => 0,
+        Err(refusal) => refusal.into(),
+    }
 }
 
 // Gives up a held tile, and returns the answer's number: 0, with that tile no longer among the held ones; or 16
@@ -156,5 +161,8 @@ pub extern "C" fn sme_give_up_tile(
 ) -> u32
     ensures { GivesUpTile tiles.old count.old (tile_of element_bytes tile) result tiles.new count.new }
 {
-    lent_tiles::give_up_tile(tiles, count, element_bytes, tile)
+    match lent_tiles::give_up_tile(tiles, count, element_bytes, tile) {
+        Ok(()) => 0,
+        Err(refusal) => refusal.into(),
+    }
 }

@@ -1,16 +1,13 @@
--- `lent_tiles::held_in` meets its contract. The invariant: the tiles before place i are read.
+-- `lent_tiles::held_in` meets its contract: each call gives the tile at its place.
 -- Assumes nothing.
-use native.Mathlib.Omega.{arith}
-use Rattle.lent_tiles.proofs.LentLaws.{filled_none, filled_more, filled_all}
+use Rattle.std.proofs.Common.{rules, tests}
+use Rattle.planner.specs.Tile.{no_tile}
+use Rattle.lent_tiles.specs.Lent.{tile_at_place}
+use Rattle.lent_tiles.proofs.LentLaws.{made_at, sixteen_in}
 use Rattle.lent_tiles.proofs.held_in.Goals as goal
 
-pub loop-i-init : goal.loop-i-init
-loop-i-init c = (omega arith, filled_none _ _)
-
-pub loop-i-preserved : goal.loop-i-preserved
-loop-i-preserved c =
-    let l = c.loop-i in
-    (omega arith, rw c.tile_in.ensures (filled_more _ _ l.i l.held l.invariant.1 (omega arith)))
-
 pub returns : goal.returns
-returns c = let l = c.loop-i in filled_all _ _ l.i l.held l.invariant.1 (omega arith)
+returns c =
+    let ns = c.args.tiles.now in
+    let e = sixteen_in ns c.from_fn.result c.from_fn.ensures.items.long (λ k w. made_at _ (tile_at_place ns) _ (λ i y q h. search (rules, tests)) c.from_fn.result 16 k no_tile c.from_fn.ensures.items w) in
+    λ i. record { tiles = e i; count = c.args.count }

@@ -1,32 +1,27 @@
 -- `lent_tiles::write_held` meets its contract. The invariant: the tiles before place i are written.
 -- Assumes nothing.
-use Prim.Native.Nat.{◌+◌, ◌*◌}
-use mathlib.Core.Path.{refl, ◌∙◌}
-use native.Mathlib.Omega.{arith}
-use lib.ListN.{set, length-set}
+use Rattle.std.proofs.Common.{◌+◌, ◌*◌, refl, ap, ◌∙◌, arith, set}
+use lib.Seq.{get_or-take, length-take-le}
 use Rattle.general.specs.Scatter.{all}
 use Rattle.general.proofs.ScatterLaws.{scatter_none, scatter_end}
+use Rattle.planner.specs.Tile.{no_tile}
+use Rattle.planner.specs.declared.tile.Tile.{Tile}
 use Rattle.lent_tiles.specs.Lent.{held_out}
 use Rattle.lent_tiles.proofs.LentLaws.{written_more}
 use Rattle.lent_tiles.proofs.write_held.Goals as goal
 
 pub loop-i-init : goal.loop-i-init
-loop-i-init c = (refl, omega arith, omega arith, omega arith, refl, scatter_none _ _ _)
-
-pub bounds-tiles-i-in-loop-i : goal.bounds-tiles-i-in-loop-i
-bounds-tiles-i-in-loop-i c = rw (length-set c.loop-i.tiles (2 * c.loop-i.i) _) (omega arith)
+loop-i-init c = scatter_none _ _ _
 
 pub loop-i-preserved : goal.loop-i-preserved
 loop-i-preserved c =
-    let l = c.loop-i in (
-      refl,
-      omega arith,
-      omega arith,
-      omega arith,
-      length-set (set l.tiles (2 * l.i) _) (2 * l.i + 1) _ ∙ length-set l.tiles (2 * l.i) _ ∙ l.invariant.4,
-      written_more c.args.held l.i _ l.tiles l.invariant.5,
-    )
+    let h = c.args.held in
+    let i = c.loop-i.i in
+    ap (λ (x : Tile). set (set c.loop-i.tiles (2 * i) x.bytes) (2 * i + 1) x.number) (get_or-take h.count h.tiles i no_tile (omega (arith, length-take-le h.count h.tiles (omega arith))))
+    ∙ written_more h i c.args.tiles.now c.loop-i.tiles c.loop-i.invariant
 
 pub returns : goal.returns
 unfolding held_out
-returns c = scatter_end (λ k. k) all _ _ c.loop-i.invariant.5 (omega arith) (omega arith)
+returns c =
+    let h = c.args.held in
+    (scatter_end (λ k. k) all _ _ c.loop-i.invariant (omega (arith, length-take-le h.count h.tiles (omega arith))) (omega (arith, length-take-le h.count h.tiles (omega arith))), refl)

@@ -1,28 +1,14 @@
--- `planner::held::is_free` meets its contract. The invariant: the tiles passed share nothing with x, so the answer is that of the rest.
+-- `planner::held::is_free` meets its contract: `any` asks of each tile whether it shares a byte.
 -- Assumes nothing.
-use Prim.Native.Nat.{◌+◌}
-use mathlib.Core.Path.{refl, sym, ◌∙◌}
-use native.Mathlib.Omega.{arith}
-use Rattle.planner.proofs.HeldLaws.{free_stops, free_goes_on, free_ends}
+use Rattle.std.proofs.Common.{rules, tests, ap, ◌∙◌, not}
+use Rattle.std.proofs.lemmas.Iterator.{YieldsList-from_slice}
+use Rattle.std.proofs.lemmas.Iterator.Search.{any_from_yields_List}
+use Rattle.planner.specs.Tile.{shares}
+use Rattle.planner.proofs.HeldLaws.{free_any}
 use Rattle.planner.proofs.held.is_free.Goals as goal
-
-pub loop-i-init : goal.loop-i-init
-loop-i-init c = (refl, omega arith, omega arith, refl)
-
-pub is_shared-requires : goal.is_shared-requires
-is_shared-requires c = (c.requires.1, c.requires.2.1 _ (omega arith) (omega arith))
-
-pub returns-then-is_shared : goal.returns-then-is_shared
-returns-then-is_shared c =
-    let h = c.args.held in
-    sym (c.loop-i.invariant.3 ∙ free_stops h.tiles h.count c.loop-i.i (c.loop-i.i + 1) refl (omega arith) (omega arith) _ (sym c.is_shared.ensures ∙ c.if-is_shared.true))
-
-pub loop-i-preserved : goal.loop-i-preserved
-loop-i-preserved c =
-    let h = c.args.held in
-    (refl, omega arith, omega arith, c.loop-i.invariant.3 ∙ free_goes_on h.tiles h.count c.loop-i.i (c.loop-i.i + 1) refl (omega arith) (omega arith) _ (sym c.is_shared.ensures ∙ c.if-is_shared.false))
 
 pub returns : goal.returns
 returns c =
-    let h = c.args.held in
-    sym (c.loop-i.invariant.3 ∙ free_ends h.tiles h.count c.loop-i.i _ (omega arith) (omega arith))
+    let x = c.args.x in
+    let l = c.args.others.now in
+    ap not (any_from_yields_List (shares x) _ _ _ c.any.ensures.ran (YieldsList-from_slice l cc) (λ y b q k. search (rules, tests))) ∙ free_any l x
