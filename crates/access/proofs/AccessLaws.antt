@@ -1,7 +1,7 @@
 -- Laws of the definitions of loads and stores (specs/Access.antt of the crate semantics): addresses, indexes of memory, and that what the
 -- code computes is what execution answers.
 -- Assumes nothing.
-use Rattle.std.proofs.Common.{◌≡◌, ℕ, ◌+◌, ◌*◌, ◌%◌, ◌^◌, ◌<◌, ◌≤◌, Bool, true, false, not, ◌&&◌, ltb, leb, List, sym, refl, ap, ◌∙◌, mod-eq_of_lt, arith, ltb-false, ltb-true, lt-ltb, le-leb, leb-true}
+use Rattle.std.proofs.Common.{◌≡◌, ℕ, ◌+◌, ◌*◌, ◌%◌, ◌^◌, ◌<◌, ◌≤◌, Bool, true, false, not, ◌&&◌, ltb, leb, List, sym, refl, ap, ◌∙◌, mod-eq_of_lt, arith, ltb-false, ltb-true, lt-ltb, le-leb, leb-true, Ok, Err}
 use mathlib.Core.Bool.{and-eq-true_iff}
 use mathlib.Core.Option.{none, some}
 use borrow.Author.Tests.{not-false}
@@ -14,7 +14,6 @@ use Rattle.tiles.specs.declared.element.ElementSize.TheVariants.{Bits8, Bits16, 
 use Rattle.encoding.specs.declared.operation.SliceAccess.{SliceAccess}
 use Rattle.semantics.specs.declared.answer.Fault.{Fault}
 use Rattle.semantics.specs.declared.answer.Refusal.TheVariants.{StackMisaligned, OutsideMemory}
-use Rattle.semantics.specs.declared.answer.Executed.TheVariants.{Done, Refused}
 use Rattle.semantics.specs.Access.{address_at, address_of, element_of, in_memory}
 use Rattle.semantics.specs.Effect.{memory_byte}
 use Rattle.semantics.specs.Execute.{access_active, faulting, fault_at, stack_bad, access_answer}
@@ -63,15 +62,15 @@ module _ (at a lm start : ℕ) (wraps : (at + a) % 2 ^ 64 ≡ start) (room : a +
 -- ---- the answer, by what the code computes
 
 module _ (s : Settings) (x p : List ℕ) (lm : ℕ) (o : SliceAccess) where
-  pub stack_refused : stack_bad s x p lm o ≡ true → Refused StackMisaligned ≡ access_answer s x p lm o
+  pub stack_refused : stack_bad s x p lm o ≡ true → Err StackMisaligned ≡ access_answer s x p lm o
   unfolding access_answer
   stack_refused e = rw e
 
-  fault_refused : (k : ℕ) → stack_bad s x p lm o ≡ false → least (faulting s x p lm o) s.vector_bytes ≡ some k → Refused (OutsideMemory (fault_at s x p lm o k)) ≡ access_answer s x p lm o
+  fault_refused : (k : ℕ) → stack_bad s x p lm o ≡ false → least (faulting s x p lm o) s.vector_bytes ≡ some k → Err (OutsideMemory (fault_at s x p lm o k)) ≡ access_answer s x p lm o
   unfolding access_answer
   fault_refused k e q = rw (e, q)
 
-  access_done : stack_bad s x p lm o ≡ false → least (faulting s x p lm o) s.vector_bytes ≡ none → access_answer s x p lm o ≡ Done
+  access_done : stack_bad s x p lm o ≡ false → least (faulting s x p lm o) s.vector_bytes ≡ none → access_answer s x p lm o ≡ Ok tt
   unfolding access_answer
   access_done e q = rw (e, q)
 
@@ -103,9 +102,9 @@ module _ (s : Settings) (x p : List ℕ) (lm : ℕ) (o : SliceAccess) where
       faults =
           first_agree _ (faulting s x p lm o) 0 B r (λ k v. ap (λ (b : Bool). access_active s x p lm o k && not b) (sym (h.inside k v) ∙ sym (index_inside k))) first
 
-      pub reaches_fault : r < B → (f : Fault) → f.address ≡ (start + r) % 2 ^ 64 → f.element ≡ element_of o r → Refused (OutsideMemory f) ≡ access_answer s x p lm o
+      pub reaches_fault : r < B → (f : Fault) → f.address ≡ (start + r) % 2 ^ 64 → f.element ≡ element_of o r → Err (OutsideMemory f) ≡ access_answer s x p lm o
       reaches_fault below f e q =
-          ap (λ (g : Fault). Refused (OutsideMemory g)) (λ i. record { address = (e ∙ addresses r) i; element = q i }) ∙ fault_refused r stack (first_some _ B r faults below)
+          ap (λ (g : Fault). Err (OutsideMemory g)) (λ i. record { address = (e ∙ addresses r) i; element = q i }) ∙ fault_refused r stack (first_some _ B r faults below)
 
       covered_byte : (k : ℕ) → k < B → covered w k ≡ true → memory_byte s x o k ≡ (at + k) % 2 ^ 64
       covered_byte k v c = index_byte k (ltb-true _ lm (h.inside k v ∙ c))

@@ -1,6 +1,6 @@
 -- What loads and stores write is what the definitions say: at once, under a predicate, and by way of a window.
 -- Assumes nothing.
-use Rattle.std.proofs.Common.{◌≡◌, ℕ, ◌+◌, ◌*◌, ◌/◌, ◌<◌, ◌≤◌, Bool, true, false, cond, List, length, get_or, sym, refl, ap, ◌∙◌, zero-add, arith}
+use Rattle.std.proofs.Common.{◌≡◌, ℕ, ◌+◌, ◌*◌, ◌/◌, ◌<◌, ◌≤◌, Bool, true, false, cond, List, length, get_or, sym, refl, ap, ◌∙◌, zero-add, arith, Ok, Err}
 use Rattle.settings.specs.Settings.{max_vector_bytes, lengths_of}
 use Rattle.settings.specs.declared.Settings.{Settings}
 use Rattle.general.specs.Scatter.{scatter, all, onwards}
@@ -22,7 +22,6 @@ use Rattle.encoding.specs.declared.operation.SliceAccess.{SliceAccess}
 use Rattle.encoding.specs.declared.operation.Operation.TheVariants.{St1, Ld1}
 use Rattle.encoding.specs.Steps.{access_move}
 use Rattle.semantics.specs.declared.answer.Refusal.{Refusal}
-use Rattle.semantics.specs.declared.answer.Executed.TheVariants.{Done, Refused}
 use Rattle.semantics.specs.State.{state_of}
 use Rattle.semantics.specs.Effect.{slice_byte, memory_byte, active_under, writes_of, loaded_value, values_of, effect_of}
 use Rattle.semantics.specs.Execute.{access_answer}
@@ -36,7 +35,7 @@ use Rattle.access.proofs.WindowLaws.{fits_more, window_byte, window_stored}
 
 -- ---- the state afterwards
 
-module _ (s : Settings) (x z p za memory : List ℕ) (o : SliceAccess) (done : access_answer s x p (length memory) o ≡ Done) where
+module _ (s : Settings) (x z p za memory : List ℕ) (o : SliceAccess) (done : access_answer s x p (length memory) o ≡ Ok tt) where
   abbrev B : ℕ
   B = s.vector_bytes
 
@@ -46,30 +45,30 @@ module _ (s : Settings) (x z p za memory : List ℕ) (o : SliceAccess) (done : a
   abbrev val : ℕ → ℕ
   val k = get_or za (slice_byte s x o.slice k) 0
 
-  store_performs : {memory' : List ℕ} → memory' ≡ scatter (memory_byte s x o) on val B memory → Performs s (St1 o) (state_of x z p za memory) Done (state_of x z p za memory')
+  store_performs : {memory' : List ℕ} → memory' ≡ scatter (memory_byte s x o) on val B memory → Performs s (St1 o) (state_of x z p za memory) (Ok tt) (state_of x z p za memory')
   unfolding scatter writes_of values_of effect_of
   store_performs w = record { answer = sym done; state = ap (λ (l : List ℕ). state_of x z p za l) w }
 
-  load_performs : {za' : List ℕ} → za' ≡ scatter (slice_byte s x o.slice) all (loaded_value s (state_of x z p za memory) o) B za → Performs s (Ld1 o) (state_of x z p za memory) Done (state_of x z p za' memory)
+  load_performs : {za' : List ℕ} → za' ≡ scatter (slice_byte s x o.slice) all (loaded_value s (state_of x z p za memory) o) B za → Performs s (Ld1 o) (state_of x z p za memory) (Ok tt) (state_of x z p za' memory)
   unfolding scatter writes_of values_of effect_of
   load_performs w = record { answer = sym done; state = ap (λ (l : List ℕ). state_of x z p l memory) w }
 
   -- the whole vector is in memory, from index `at` on
   module _ (at : ℕ) (places : (k : ℕ) → k < B → memory_byte s x o k ≡ at + k) where
-    pub whole_stored : {memory' : List ℕ} → memory' ≡ scatter (onwards at) on val B memory → Performs s (St1 o) (state_of x z p za memory) Done (state_of x z p za memory')
+    pub whole_stored : {memory' : List ℕ} → memory' ≡ scatter (onwards at) on val B memory → Performs s (St1 o) (state_of x z p za memory) (Ok tt) (state_of x z p za memory')
     whole_stored e = store_performs (e ∙ scatter_agree _ _ on val val B memory (λ k w y. (sym (places k w), refl)))
 
-    pub whole_loaded : {za' : List ℕ} → za' ≡ scatter (slice_byte s x o.slice) all (λ (k : ℕ). cond (on k) (get_or memory (at + k) 0) 0) B za → Performs s (Ld1 o) (state_of x z p za memory) Done (state_of x z p za' memory)
+    pub whole_loaded : {za' : List ℕ} → za' ≡ scatter (slice_byte s x o.slice) all (λ (k : ℕ). cond (on k) (get_or memory (at + k) 0) 0) B za → Performs s (Ld1 o) (state_of x z p za memory) (Ok tt) (state_of x z p za' memory)
     whole_loaded e =
         load_performs (e ∙ scatter_agree _ _ all _ _ B za (λ k w y. (refl, ap (λ (i : ℕ). cond (on k) (get_or memory i 0) 0) (sym (places k w)))))
 
   -- a window has every active byte of it
   module _ (w : Window) (c : Covers s x p (length memory) o w) (long : B ≤ length blank) where
-    pub parts_stored : {v memory' : List ℕ} → v ≡ scatter (onwards 0) on val B (window_read w memory blank) → memory' ≡ window_written w v memory → Performs s (St1 o) (state_of x z p za memory) Done (state_of x z p za memory')
+    pub parts_stored : {v memory' : List ℕ} → v ≡ scatter (onwards 0) on val B (window_read w memory blank) → memory' ≡ window_written w v memory → Performs s (St1 o) (state_of x z p za memory) (Ok tt) (state_of x z p za memory')
     parts_stored q e =
         store_performs (e ∙ window_stored memory c.fits c.placed on c.covers val blank long q)
 
-    pub parts_loaded : {za' : List ℕ} → za' ≡ scatter (slice_byte s x o.slice) all (λ (k : ℕ). cond (on k) (get_or (window_read w memory blank) (0 + k) 0) 0) B za → Performs s (Ld1 o) (state_of x z p za memory) Done (state_of x z p za' memory)
+    pub parts_loaded : {za' : List ℕ} → za' ≡ scatter (slice_byte s x o.slice) all (λ (k : ℕ). cond (on k) (get_or (window_read w memory blank) (0 + k) 0) 0) B za → Performs s (Ld1 o) (state_of x z p za memory) (Ok tt) (state_of x z p za' memory)
     parts_loaded e = load_performs (e ∙ scatter_agree _ _ all _ _ B za (λ k v y. (refl, byte k v (on k) refl)))
       where
         byte : (k : ℕ) → k < B → (b : Bool) → on k ≡ b → cond b (get_or (window_read w memory blank) (0 + k) 0) 0 ≡ cond b (get_or memory (memory_byte s x o k) 0) 0
@@ -78,7 +77,7 @@ module _ (s : Settings) (x z p za memory : List ℕ) (o : SliceAccess) (done : a
         byte k v false q = refl
 
 -- a refusal, of either
-pub access_refused : (s : Settings) (x z p za memory : List ℕ) (o : SliceAccess) (stores : Bool) (r : Refusal) → Refused r ≡ access_answer s x p (length memory) o → Performs s (access_move stores o) (state_of x z p za memory) (Refused r) (state_of x z p za memory)
+pub access_refused : (s : Settings) (x z p za memory : List ℕ) (o : SliceAccess) (stores : Bool) (r : Refusal) → Err r ≡ access_answer s x p (length memory) o → Performs s (access_move stores o) (state_of x z p za memory) (Err r) (state_of x z p za memory)
 access_refused s x z p za memory o true r e = record { answer = e; state = refl }
 access_refused s x z p za memory o false r e = record { answer = e; state = refl }
 
@@ -148,15 +147,15 @@ module _ {s : Settings} {x p za memory : List ℕ} {o : SliceAccess} {r : Prepar
 
   module _ (z : List ℕ) where
     module _ (at : ℕ) (reach : Reaches s x p (length memory) o (Whole at)) {v : Span} (e : v ≡ run_from s o.slice.size at) where
-      pub stores_whole : {memory' : List ℕ} → memory' ≡ merged false (active part 0 m) v r.slice m za memory → Performs s (St1 o) (state_of x z p za memory) Done (state_of x z p za memory')
+      pub stores_whole : {memory' : List ℕ} → memory' ≡ merged false (active part 0 m) v r.slice m za memory → Performs s (St1 o) (state_of x z p za memory) (Ok tt) (state_of x z p za memory')
       stores_whole w = whole_stored s x z p za memory o reach.0 at reach.2 (stored at (length memory) reach.1 e memory w)
 
-      pub loads_whole : {za' : List ℕ} → za' ≡ merged true (active part 0 m) r.slice v m memory za → Performs s (Ld1 o) (state_of x z p za memory) Done (state_of x z p za' memory)
+      pub loads_whole : {za' : List ℕ} → za' ≡ merged true (active part 0 m) r.slice v m memory za → Performs s (Ld1 o) (state_of x z p za memory) (Ok tt) (state_of x z p za' memory)
       loads_whole w = whole_loaded s x z p za memory o reach.0 at reach.2 (loaded at (length memory) reach.1 e memory w)
 
     module _ (w : Window) (reach : Reaches s x p (length memory) o (Parts w)) {v : Span} (e : v ≡ run_from s o.slice.size 0) where
-      pub stores_parts : {memory' : List ℕ} → memory' ≡ window_written w (merged false (active part 0 m) v r.slice m za (window_read w memory blank)) memory → Performs s (St1 o) (state_of x z p za memory) Done (state_of x z p za memory')
+      pub stores_parts : {memory' : List ℕ} → memory' ≡ window_written w (merged false (active part 0 m) v r.slice m za (window_read w memory blank)) memory → Performs s (St1 o) (state_of x z p za memory) (Ok tt) (state_of x z p za memory')
       stores_parts q = parts_stored s x z p za memory o reach.0 w reach.1 (omega (arith, short)) (stored 0 (length blank) short e (window_read w memory blank) refl) q
 
-      pub loads_parts : {za' : List ℕ} → za' ≡ merged true (active part 0 m) r.slice v m (window_read w memory blank) za → Performs s (Ld1 o) (state_of x z p za memory) Done (state_of x z p za' memory)
+      pub loads_parts : {za' : List ℕ} → za' ≡ merged true (active part 0 m) r.slice v m (window_read w memory blank) za → Performs s (Ld1 o) (state_of x z p za memory) (Ok tt) (state_of x z p za' memory)
       loads_parts q = parts_loaded s x z p za memory o reach.0 w reach.1 (omega (arith, short)) (loaded 0 (length blank) short e (window_read w memory blank) q)

@@ -1,15 +1,13 @@
 -- What the functions of this crate promise.
 -- Assumes nothing.
-use Rattle.std.specs.Prelude.{◌≡◌, ℕ, ◌+◌, ◌*◌, ◌/◌, ◌<◌, ◌≤◌, Bool, true, false, List}
+use Rattle.std.specs.Prelude.{◌≡◌, ℕ, ◌+◌, ◌*◌, ◌/◌, ◌<◌, ◌≤◌, Bool, true, false, List, Result, ⊤, Ok, Err}
 use Rattle.settings.specs.Settings.{stride_of}
 use Rattle.settings.specs.declared.Settings.{Settings}
 use Rattle.tiles.specs.Span.{slice_span}
 use Rattle.tiles.specs.declared.slice.TileSlice.{TileSlice}
 use Rattle.encoding.specs.declared.operation.SliceAccess.{SliceAccess}
 use Rattle.encoding.specs.Steps.{access_move}
-use Rattle.semantics.specs.declared.answer.Executed.{Executed}
-use Rattle.semantics.specs.declared.answer.Executed.TheVariants.{Done}
-use Rattle.semantics.specs.declared.answer.Executed.TheVariants as executed
+use Rattle.semantics.specs.declared.answer.Refusal.{Refusal}
 use Rattle.semantics.specs.State.{state_of}
 use Rattle.semantics.specs.Steps.{Performs}
 use Rattle.semantics.specs.Effect.{memory_byte}
@@ -39,9 +37,9 @@ pub record Covers (s : Settings) (x p : List ℕ) (lm : ℕ) (o : SliceAccess) (
 -- where a load or store goes, or why it is refused
 abbrev pub Reaches : Settings → List ℕ → List ℕ → ℕ → SliceAccess → Reach → Type 0
 Reaches s x p lm o (Whole at) =
-    (access_answer s x p lm o ≡ Done) × (at + s.vector_bytes ≤ lm) × ((k : ℕ) → k < s.vector_bytes → memory_byte s x o k ≡ at + k)
-Reaches s x p lm o (Parts w) = (access_answer s x p lm o ≡ Done) × Covers s x p lm o w
-Reaches s x p lm o (Refused r) = executed.Refused r ≡ access_answer s x p lm o
+    (access_answer s x p lm o ≡ Ok tt) × (at + s.vector_bytes ≤ lm) × ((k : ℕ) → k < s.vector_bytes → memory_byte s x o k ≡ at + k)
+Reaches s x p lm o (Parts w) = (access_answer s x p lm o ≡ Ok tt) × Covers s x p lm o w
+Reaches s x p lm o (Refused r) = Err r ≡ access_answer s x p lm o
 
 -- what a load or store goes by
 pub record Prepares (s : Settings) (x p : List ℕ) (lm : ℕ) (o : SliceAccess) (r : Prepared) : Type 0 where
@@ -50,5 +48,5 @@ pub record Prepares (s : Settings) (x p : List ℕ) (lm : ℕ) (o : SliceAccess)
   pub reach : Reaches s x p lm o r.reach
 
 -- a load or store, which leaves Z alone, whatever it holds: the answer, and the state, whichever answer
-abbrev pub Accesses : Settings → Bool → SliceAccess → List ℕ → List ℕ → List ℕ → List ℕ → Executed → List ℕ → List ℕ → Type 0
+abbrev pub Accesses : Settings → Bool → SliceAccess → List ℕ → List ℕ → List ℕ → List ℕ → Result ⊤ Refusal → List ℕ → List ℕ → Type 0
 Accesses s stores o x p za memory r za' memory' = (z : List ℕ) → Performs s (access_move stores o) (state_of x z p za memory) r (state_of x z p za' memory')

@@ -12,7 +12,7 @@ ghost use Rattle.access.specs.Promise.{slice_access, Accesses};
 
 use crate::reach::{Reach, prepare};
 use crate::window::{Window, read_window, write_window};
-use semantics::Executed;
+use semantics::Refusal;
 use settings::Settings;
 use tiles::{ElementSize, Span, TileSlice, run_from};
 
@@ -65,7 +65,7 @@ pub fn access(
     p: &[u8],
     za: &mut [u8],
     memory: &mut [u8],
-) -> Executed
+) -> Result<(), Refusal>
     requires { Sized settings (length x.now) (lengths_of settings).z (length p.now) (length za.old) (length memory.old) × AccessInRange (slice_access slice pg rn rm) }
     ensures { Accesses settings stores (slice_access slice pg rn rm) x.now p.now za.old memory.old result za.new memory.new }
 {
@@ -84,7 +84,7 @@ pub fn access(
             } else {
                 moves::replace(za, span, memory, vector, governing, size);
             }
-            Executed::Done
+            Ok(())
         }
         Reach::Parts(w) => {
             let run = run_from(0, settings, size);
@@ -93,8 +93,8 @@ pub fn access(
             } else {
                 load_parts(za, span, memory, w, run, governing, size);
             }
-            Executed::Done
+            Ok(())
         }
-        Reach::Refused(refusal) => Executed::Refused(refusal),
+        Reach::Refused(refusal) => Err(refusal),
     }
 }

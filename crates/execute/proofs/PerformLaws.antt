@@ -1,5 +1,6 @@
 -- What performing an operation relies on and promises, put together for execution.
 -- Assumes nothing.
+use Rattle.std.specs.Prelude.{Result, ⊤, Ok, Err}
 use Prim.Native.Nat.{ℕ}
 use mathlib.Core.Path.{◌≡◌, refl, sym, ap, ◌∙◌}
 use mathlib.Core.Bool.{Bool, true, false}
@@ -18,8 +19,6 @@ use Rattle.encoding.specs.declared.operation.Decoded.{Decoded}
 use Rattle.encoding.specs.declared.operation.Decoded.TheVariants as decoded
 use Rattle.semantics.specs.declared.answer.Refusal.{Refusal}
 use Rattle.semantics.specs.declared.answer.Refusal.TheVariants.{StreamingOff, ZaOff}
-use Rattle.semantics.specs.declared.answer.Executed.{Executed}
-use Rattle.semantics.specs.declared.answer.Executed.TheVariants.{Done, Refused}
 use Rattle.semantics.specs.Answer.{executed_answer}
 use Rattle.semantics.specs.State.{State, state_of, public_of}
 use Rattle.semantics.specs.Execute.{guard, buffers_answer, operation_answer, word_answer, answer_of, word_effect, if_done, execute_of}
@@ -47,36 +46,36 @@ access_range true o h = h
 access_range false o h = h
 
 -- a move is done
-pub array_done : (s : Settings) (x p : List ℕ) (lm : ℕ) (b : Bool) (o : ArrayToVectors) → operation_answer s x p lm (array_move b o) ≡ Done
+pub array_done : (s : Settings) (x p : List ℕ) (lm : ℕ) (b : Bool) (o : ArrayToVectors) → operation_answer s x p lm (array_move b o) ≡ Ok tt
 array_done s x p lm true o = refl
 array_done s x p lm false o = refl
 
-pub moves_perform : (s : Settings) (op o : Operation) (x z p za memory : List ℕ) {z' za' : List ℕ} → op ≡ o → operation_answer s x p (length memory) o ≡ Done → Moves s o x z p za z' za' → Performs s op (state_of x z p za memory) Done (state_of x z' p za' memory)
+pub moves_perform : (s : Settings) (op o : Operation) (x z p za memory : List ℕ) {z' za' : List ℕ} → op ≡ o → operation_answer s x p (length memory) o ≡ Ok tt → Moves s o x z p za z' za' → Performs s op (state_of x z p za memory) (Ok tt) (state_of x z' p za' memory)
 moves_perform s op o x z p za memory e ans h = rw e (record { answer = sym ans; state = h memory })
 
 -- ---- one word
 
 module _ (s : Settings) (w : ℕ) (t : State) where
-  executes : (r : Executed) (t' : State) → r ≡ (execute_of s w t).answer → t' ≡ (execute_of s w t).state → Executes s w t r t'
+  executes : (r : Result ⊤ Refusal) (t' : State) → r ≡ (execute_of s w t).answer → t' ≡ (execute_of s w t).state → Executes s w t r t'
   unfolding execute_of
   executes r t' e q = record { answer = e; numbers = ap executed_answer e ∙ answers_agree s (public_of t) w; state = q }
 
   -- a refusal leaves the state
-  pub refused_executes : (r : Refusal) → (execute_of s w t).answer ≡ Refused r → Executes s w t (Refused r) t
+  pub refused_executes : (r : Refusal) → (execute_of s w t).answer ≡ Err r → Executes s w t (Err r) t
   unfolding execute_of
-  refused_executes r e = executes (Refused r) t (sym e) (ap (λ (a : Executed). if_done a t (word_effect s (decode_of w s.level) t)) (sym e))
+  refused_executes r e = executes (Err r) t (sym e) (ap (λ (a : Result ⊤ Refusal). if_done a t (word_effect s (decode_of w s.level) t)) (sym e))
 
   -- settings and lengths refuse whatever the word
-  pub buffers_refuse : (r : Refusal) → buffers_answer s (length t.x) (length t.z) (length t.p) (length t.za) (length t.memory) Done ≡ Refused r → Executes s w t (Refused r) t
+  pub buffers_refuse : (r : Refusal) → buffers_answer s (length t.x) (length t.z) (length t.p) (length t.za) (length t.memory) (Ok tt) ≡ Err r → Executes s w t (Err r) t
   unfolding execute_of answer_of
   buffers_refuse r e = refused_executes r (buffers_refused s (length t.x) (length t.z) (length t.p) (length t.za) (length t.memory) (word_answer s t.x t.p (length t.memory) (decode_of w s.level)) r e)
 
   -- the word refuses
-  pub word_refuses : (r : Refusal) → SizedAt s t → word_answer s t.x t.p (length t.memory) (decode_of w s.level) ≡ Refused r → Executes s w t (Refused r) t
+  pub word_refuses : (r : Refusal) → SizedAt s t → word_answer s t.x t.p (length t.memory) (decode_of w s.level) ≡ Err r → Executes s w t (Err r) t
   word_refuses r h e = refused_executes r (sized_answer s w t h ∙ e)
 
   module _ (o : Operation) (h : SizedAt s t) (dec : decode_of w s.level ≡ decoded.Done o) where
-    rest : Executed
+    rest : Result ⊤ Refusal
     rest = operation_answer s t.x t.p (length t.memory) o
 
     -- the two switches
@@ -84,18 +83,18 @@ module _ (s : Settings) (w : ℕ) (t : State) where
     unfolding rest
     switched a b d e = ap (word_answer s t.x t.p (length t.memory)) dec ∙ ap (λ (a : Bool). guard a StreamingOff (guard s.za ZaOff rest)) d ∙ ap (λ (b : Bool). guard a StreamingOff (guard b ZaOff rest)) e
 
-    pub streaming_off_lem : s.streaming ≡ false → Executes s w t (Refused StreamingOff) t
+    pub streaming_off_lem : s.streaming ≡ false → Executes s w t (Err StreamingOff) t
     streaming_off_lem e = word_refuses StreamingOff h (switched false s.za e refl)
 
-    pub za_off_lem : s.streaming ≡ true → s.za ≡ false → Executes s w t (Refused ZaOff) t
+    pub za_off_lem : s.streaming ≡ true → s.za ≡ false → Executes s w t (Err ZaOff) t
     za_off_lem on e = word_refuses ZaOff h (switched true false on e)
 
     -- what performing the operation promises is what executing the word does
-    pub performed : (r : Executed) (t' : State) → s.streaming ≡ true → s.za ≡ true → Performs s o t r t' → Executes s w t r t'
+    pub performed : (r : Result ⊤ Refusal) (t' : State) → s.streaming ≡ true → s.za ≡ true → Performs s o t r t' → Executes s w t r t'
     unfolding execute_of
     performed r t' on za q =
         let e : (execute_of s w t).answer ≡ r = operation_answer_lem s w t o h dec on za ∙ sym q.answer in
         executes r t' (sym e)
         (q.state ∙
         ap (λ (d : Decoded). if_done r t (word_effect s d t)) (sym dec) ∙
-        ap (λ (a : Executed). if_done a t (word_effect s (decode_of w s.level) t)) (sym e))
+        ap (λ (a : Result ⊤ Refusal). if_done a t (word_effect s (decode_of w s.level) t)) (sym e))

@@ -1,19 +1,18 @@
 -- What the check of settings and lengths promises, and the steps of an array move.
 -- Assumes nothing.
-use Rattle.std.specs.Prelude.{ℕ, ◌+◌, ◌*◌, ◌/◌, ◌<◌, ◌≡◌, Bool, cond, List, [], get_or}
+use Rattle.std.specs.Prelude.{ℕ, ◌+◌, ◌*◌, ◌/◌, ◌<◌, ◌≡◌, Bool, cond, List, [], get_or, Result, ⊤, Ok}
 use Rattle.general.specs.Scatter.{scatter, all, zeros, onwards}
 use Rattle.settings.specs.Answer.{answer_with, done, bad_settings, bad_lengths}
 use Rattle.settings.specs.Settings.{valid_settings, stride_of}
 use Rattle.settings.specs.declared.Settings.{Settings}
-use Rattle.semantics.specs.declared.answer.Executed.{Executed}
-use Rattle.semantics.specs.declared.answer.Executed.TheVariants.{Done}
 use Rattle.tiles.specs.Group.{group_of, group_at}
+use Rattle.semantics.specs.declared.answer.Refusal.{Refusal}
 use Rattle.semantics.specs.Answer.{executed_answer}
 use Rattle.semantics.specs.Effect.{registers_byte}
 use Rattle.semantics.specs.Execute.{valid_lengths, buffers_answer}
 
-pub record ChecksBuffers (s : Settings) (lx lz lp lza lm : ℕ) (r : Executed) : Type 0 where
-  pub equal : r ≡ buffers_answer s lx lz lp lza lm Done
+pub record ChecksBuffers (s : Settings) (lx lz lp lza lm : ℕ) (r : Result ⊤ Refusal) : Type 0 where
+  pub equal : r ≡ buffers_answer s lx lz lp lza lm (Ok tt)
   pub numbers : executed_answer r ≡ cond (valid_settings s) (cond (valid_lengths s lx lz lp lza lm) (answer_with done []) (answer_with bad_lengths [])) (answer_with bad_settings [])
 
 -- ---- an array move: of vectors that start stride_of s apart in both buffers

@@ -1,7 +1,7 @@
 // The checks that look at settings and lengths alone (answers 1 and 2 of document 01 §6).
 ghost use Rattle.execute.specs.Promise.{ChecksBuffers};
 
-use semantics::{Executed, Refusal};
+use semantics::Refusal;
 use settings::{Checked, Settings};
 
 // Whether the settings are valid, the buffers have the lengths that the settings fix, and
@@ -13,29 +13,29 @@ pub fn check_buffers(
     p: usize,
     za: usize,
     memory: usize,
-) -> Executed
+) -> Result<(), Refusal>
     ensures { ChecksBuffers settings x z p za memory result }
 {
     let Checked::Valid = settings.check() else {
-        return Executed::Refused(Refusal::BadSettings);
+        return Err(Refusal::BadSettings);
     };
     let lengths = settings.lengths();
     if x as u64 != lengths.x {
-        return Executed::Refused(Refusal::BadLengths);
+        return Err(Refusal::BadLengths);
     }
     if z as u64 != lengths.z {
-        return Executed::Refused(Refusal::BadLengths);
+        return Err(Refusal::BadLengths);
     }
     if p as u64 != lengths.p {
-        return Executed::Refused(Refusal::BadLengths);
+        return Err(Refusal::BadLengths);
     }
     if za as u64 != lengths.za {
-        return Executed::Refused(Refusal::BadLengths);
+        return Err(Refusal::BadLengths);
     }
     if 0 < memory {
         if u64::MAX - settings.memory_address < memory as u64 - 1 {
-            return Executed::Refused(Refusal::BadLengths);
+            return Err(Refusal::BadLengths);
         }
     }
-    Executed::Done
+    Ok(())
 }

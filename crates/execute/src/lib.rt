@@ -5,7 +5,7 @@
 ghost use Rattle.semantics.specs.State.{state_of};
 ghost use Rattle.semantics.specs.Promise.{Executes};
 
-use semantics::Executed;
+use semantics::Refusal;
 use settings::Settings;
 
 mod array;
@@ -26,12 +26,9 @@ pub fn execute(
     p: &[u8],
     za: &mut [u8],
     memory: &mut [u8],
-) -> Executed
+) -> Result<(), Refusal>
     ensures { Executes settings word (state_of x.now z.old p.now za.old memory.old) result (state_of x.now z.new p.now za.new memory.new) }
 {
-    let checked = check::check_buffers(settings, x.len(), z.len(), p.len(), za.len(), memory.len());
-    match checked {
-        Executed::Done => perform::perform(settings, word, x, z, p, za, memory),
-        Executed::Refused(_) => checked,
-    }
+    check_buffers(settings, x.len(), z.len(), p.len(), za.len(), memory.len())?;
+    perform::perform(settings, word, x, z, p, za, memory)
 }

@@ -9,7 +9,7 @@ ghost use Rattle.semantics.specs.Steps.{Performs, Sized};
 
 use crate::{array, tile};
 use decoder::{Class, Classified};
-use semantics::{Executed, Refusal};
+use semantics::Refusal;
 use settings::Settings;
 
 // Decodes a word and performs its operation.
@@ -21,18 +21,18 @@ pub fn perform(
     p: &[u8],
     za: &mut [u8],
     memory: &mut [u8],
-) -> Executed
+) -> Result<(), Refusal>
     requires { Sized settings (length x.now) (length z.old) (length p.now) (length za.old) (length memory.old) }
     ensures { Executes settings word (state_of x.now z.old p.now za.old memory.old) result (state_of x.now z.new p.now za.new memory.new) }
 {
     let Classified::Done(class) = decoder::classify(word, settings.level) else {
-        return Executed::Refused(Refusal::Undecodable);
+        return Err(Refusal::Undecodable);
     };
     if !settings.streaming {
-        return Executed::Refused(Refusal::StreamingOff);
+        return Err(Refusal::StreamingOff);
     }
     if !settings.za {
-        return Executed::Refused(Refusal::ZaOff);
+        return Err(Refusal::ZaOff);
     }
     operate(class, word, settings, x, z, p, za, memory)
 }
@@ -47,28 +47,28 @@ fn operate(
     p: &[u8],
     za: &mut [u8],
     memory: &mut [u8],
-) -> Executed
+) -> Result<(), Refusal>
     requires { Sized settings (length x.now) (length z.old) (length p.now) (length za.old) (length memory.old) × InRange (operation_in class word) }
     ensures { Performs settings (operation_in class word) (state_of x.now z.old p.now za.old memory.old) result (state_of x.now z.new p.now za.new memory.new) }
 {
     match class {
         Class::ToTile(size) => {
             tile::move_to_tile(decoder::to_tile_in(size, word), settings, x, z, p, za);
-            Executed::Done
+            Ok(())
         }
         Class::FromTile(size) => {
             tile::move_from_tile(decoder::predicated_in(size, word), settings, x, z, p, za);
-            Executed::Done
+            Ok(())
         }
         Class::Take(size) => {
             tile::take_from_tile(decoder::whole_in(size, word), settings, x, z, p, za);
-            Executed::Done
+            Ok(())
         }
         Class::Array(registers) => {
             let zeroes = decoder::zeroes_in(word);
             let group = decoder::array_in(registers, word);
             array::take_from_array(zeroes, group, settings, x, z, p, za);
-            Executed::Done
+            Ok(())
         }
         Class::Access(size) => {
             let stores = decoder::stores_in(word);

@@ -1,5 +1,6 @@
 -- The theorems of specs/Between.antt.
 -- Assumes nothing.
+use Rattle.std.specs.Prelude.{Result, ⊤, Ok, Err}
 use Prim.Native.Nat.{ℕ, suc, ◌*◌, ◌/◌, ◌<◌, ◌≤◌}
 use mathlib.Core.Path.{◌≡◌, refl, sym, ap, ◌∙◌, subst}
 use mathlib.Core.Bool.{true, true≢false}
@@ -23,8 +24,7 @@ use Rattle.tiles.specs.Direction.{flip}
 use Rattle.tiles.proofs.TileLaws.{element_below}
 use Rattle.tiles.proofs.LengthLaws.{whole_elements}
 use Rattle.tiles.proofs.SliceLaws.{active_element, written_at}
-use Rattle.semantics.specs.declared.answer.Executed.{Executed}
-use Rattle.semantics.specs.declared.answer.Executed.TheVariants as executed
+use Rattle.semantics.specs.declared.answer.Refusal.{Refusal}
 use Rattle.semantics.specs.State.{State, public_of}
 use Rattle.semantics.specs.Effect.{writes_of, values_of, effect_of}
 use Rattle.semantics.specs.Execute.{if_done}
@@ -73,9 +73,9 @@ beside_leaves c za o e b = idle o e (go o b)
 pub refused_leaves : RefusedLeaves
 refused_leaves c za n = go (outcome c za).answer refl
   where
-    go : (a : Executed) → (outcome c za).answer ≡ a → LeavesZa c za
-    go executed.Done e = absurd (n e)
-    go (executed.Refused r) e = refused r e
+    go : (a : Result ⊤ Refusal) → (outcome c za).answer ≡ a → LeavesZa c za
+    go (Ok _) e = absurd (n e)
+    go (Err r) e = refused r e
 
 pub inactive_leaves : InactiveLeaves
 unfolding writes_of active
@@ -91,7 +91,7 @@ inactive_leaves c za o e h = go (ends c.settings c.word (state_with c za))
 -- ---- calls that write ZA
 
 -- a done call is done by its own operation
-done_does : (c : Call) (za : List ℕ) (o : Operation) → decoded_of c ≡ Done o → (outcome c za).answer ≡ executed.Done → DoesCall c za o
+done_does : (c : Call) (za : List ℕ) (o : Operation) → decoded_of c ≡ Done o → (outcome c za).answer ≡ Ok tt → DoesCall c za o
 done_does c za o e a = go (ends c.settings c.word (state_with c za))
   where
     go : Ends c.settings c.word (state_with c za) → DoesCall c za o
@@ -99,7 +99,7 @@ done_does c za o e a = go (ends c.settings c.word (state_with c za))
     go (stays r n q) = absurd (refused_not_done r (sym n ∙ a))
 
 -- if its first place in ZA is there and is written, it does not leave ZA
-first_written : (c : Call) (za : List ℕ) (o : Operation) → decoded_of c ≡ Done o → (outcome c za).answer ≡ executed.Done → (0 < c.settings.vector_bytes → 0 < (writes_of c.settings (public_of (state_with c za)) o).za.count) → (writes_of c.settings (public_of (state_with c za)) o).za.on 0 ≡ true → LeavesZa c za → ⊥
+first_written : (c : Call) (za : List ℕ) (o : Operation) → decoded_of c ≡ Done o → (outcome c za).answer ≡ Ok tt → (0 < c.settings.vector_bytes → 0 < (writes_of c.settings (public_of (state_with c za)) o).za.count) → (writes_of c.settings (public_of (state_with c za)) o).za.on 0 ≡ true → LeavesZa c za → ⊥
 first_written c za o q a there on (refused r e) = refused_not_done r (sym e ∙ a)
 first_written c za o q a there on (idle o' e h) =
     let d = done_does c za o q a in
@@ -161,10 +161,10 @@ others_some [] after c za e = rw e (omega arith)
 others_some (b ∷ before) after c za e = omega (arith, others_some before after c (za_after b za) e, others_later (moved b za) (moves (before ++ c ∷ after) (za_after b za)))
 
 -- no call that is done and moves neither way is a call of a crossing list
-other_stays_out : (S B : ℕ) (size : ElementSize) (d : Direction) (t : ℕ) (before after : List Call) (c : Call) (za : List ℕ) (o : Operation) → move_of c o ≡ other → decoded_of c ≡ Done o → (outcome c (run before za)).answer ≡ executed.Done → Crosses S B size d t (before ++ c ∷ after) za → ⊥
+other_stays_out : (S B : ℕ) (size : ElementSize) (d : Direction) (t : ℕ) (before after : List Call) (c : Call) (za : List ℕ) (o : Operation) → move_of c o ≡ other → decoded_of c ≡ Done o → (outcome c (run before za)).answer ≡ Ok tt → Crosses S B size d t (before ++ c ∷ after) za → ⊥
 unfolding moved
 other_stays_out S B size d t before after c za o m e a h =
-    let is-other : moved c (run before za) ≡ some other = ap (λ (r : Executed). if_done r none (decoded_move c (decoded_of c))) a ∙ ap (decoded_move c) e ∙ ap some m in
+    let is-other : moved c (run before za) ≡ some other = ap (λ (r : Result ⊤ Refusal). if_done r none (decoded_move c (decoded_of c))) a ∙ ap (decoded_move c) e ∙ ap some m in
     omega (arith, others_some before after c za is-other, ap others h.order, others_none S B size d t h.rows h.columns)
 
 pub loads_stay_out : LoadsStayOut

@@ -1,5 +1,6 @@
 -- Laws of specs/Calls.antt: what a done call writes, what a refused one leaves, and lists of calls taken apart.
 -- Assumes nothing.
+use Rattle.std.specs.Prelude.{Result, ⊤}
 use Prim.Native.Nat.{ℕ}
 use mathlib.Core.Path.{◌≡◌, refl, sym, ap, ◌∙◌}
 use mathlib.Core.List.{List, [], ◌∷◌, ◌++◌}
@@ -8,7 +9,7 @@ use native.Mathlib.Omega.{arith}
 use lib.ListN.{length}
 use Rattle.general.proofs.LeastLaws.{none_some}
 use Rattle.encoding.specs.declared.operation.Operation.{Operation}
-use Rattle.semantics.specs.declared.answer.Executed.{Executed}
+use Rattle.semantics.specs.declared.answer.Refusal.{Refusal}
 use Rattle.semantics.specs.State.{State}
 use Rattle.semantics.specs.Execute.{if_done}
 use Rattle.semantics.proofs.Claims.{execution_keeps}
@@ -32,9 +33,9 @@ call_ends c za = go (ends c.settings c.word (state_with c za))
     go : Ends c.settings c.word (state_with c za) → CallEnds c za
     go (does o d) =
         moves_by o d
-        (ap (λ (a : Executed). if_done a none (decoded_move c (decoded_of c))) d.answer ∙
+        (ap (λ (a : Result ⊤ Refusal). if_done a none (decoded_move c (decoded_of c))) d.answer ∙
         ap (decoded_move c) d.decoded)
-    go (stays r n e) = rests (ap (λ (a : Executed). if_done a none (decoded_move c (decoded_of c))) n) (ap (λ (t : State). t.za) e)
+    go (stays r n e) = rests (ap (λ (a : Result ⊤ Refusal). if_done a none (decoded_move c (decoded_of c))) n) (ap (λ (t : State). t.za) e)
 
 pub some_same : {A : Type 0} {a b : A} → some a ≡ some b → a ≡ b
 some_same e = cc

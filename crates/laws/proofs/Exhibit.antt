@@ -1,5 +1,6 @@
 -- The theorems of specs/Exhibit.antt: each call of the list passes every check, and its own index register gives its slice.
 -- Assumes nothing.
+use Rattle.std.specs.Prelude.{Result, ⊤, Ok}
 use Prim.Native.Nat.{ℕ, zero, suc, ◌+◌, ◌*◌, ◌-◌, ◌/◌, ◌%◌, ◌^◌, ◌<◌, ◌≤◌}
 use mathlib.Core.Path.{◌≡◌, refl, sym, ap, ◌∙◌, subst}
 use mathlib.Core.Bool.{true, false}
@@ -32,9 +33,8 @@ use Rattle.encoding.proofs.CodecLaws.{level_of, encoded_decodes}
 use Rattle.encoder.specs.Steps.{offset_count}
 use Rattle.encoder.proofs.EncoderLaws.{to_tile_encodes, from_tile_encodes}
 use Rattle.tiles.specs.Direction.{flip}
-use Rattle.semantics.specs.declared.answer.Executed.{Executed}
-use Rattle.semantics.specs.declared.answer.Executed.TheVariants.{Done}
 use Rattle.tiles.specs.Slice.{selected}
+use Rattle.semantics.specs.declared.answer.Refusal.{Refusal}
 use Rattle.semantics.specs.Execute.{if_done, operation_answer}
 use Rattle.tiles.proofs.LengthLaws.{whole_elements}
 use Rattle.semantics.proofs.ExecuteLaws.{SizedAt, operation_answer_lem}
@@ -159,7 +159,7 @@ choices_exist least S B level size k index offset predicate register fits from u
 
 module _ (S B : ℕ) (size : ElementSize) (fits : Fitting B S) (k : ℕ) (h : Choice) (za : List ℕ) (long : length za ≡ S * S) where
   -- a call whose operation is never refused is done
-  call_done : (least : ℕ) → Ready least S B size k h → (o : Choice → Operation) → decoded_of (call_by o h) ≡ decoded.Done (o h) → operation_answer h.settings h.x h.p (length h.memory) (o h) ≡ Done → moved (call_by o h) za ≡ some (move_of (call_by o h) (o h))
+  call_done : (least : ℕ) → Ready least S B size k h → (o : Choice → Operation) → decoded_of (call_by o h) ≡ decoded.Done (o h) → operation_answer h.settings h.x h.p (length h.memory) (o h) ≡ Ok tt → moved (call_by o h) za ≡ some (move_of (call_by o h) (o h))
   unfolding moved
   call_done least ready o decodes ans =
       let c = call_by o h in
@@ -173,7 +173,7 @@ module _ (S B : ℕ) (size : ElementSize) (fits : Fitting B S) (k : ℕ) (h : Ch
         za = rw ready.largest long;
         memory = ready.memory;
       } in
-      ap (λ (a : Executed). if_done a none (decoded_move c (decoded_of c))) (operation_answer_lem h.settings (word_for (o h)) (state_with c za) (o h) sized decodes ready.streaming ready.za ∙ ans) ∙
+      ap (λ (a : Result ⊤ Refusal). if_done a none (decoded_move c (decoded_of c))) (operation_answer_lem h.settings (word_for (o h)) (state_with c za) (o h) sized decodes ready.streaming ready.za ∙ ans) ∙
       ap (decoded_move c) decodes
 
   -- its move is on slice k, with vectors of B bytes that start S apart
@@ -244,7 +244,7 @@ insert_moves [] after c za e = rw e (go (call_ends c za))
 insert_moves (b ∷ before) after c za e = ap (with_move (moved b za)) (insert_moves before after c (za_after b za) e)
 
 -- a refused call has no move
-refused_none : (c : Call) (za : List ℕ) → ((outcome c za).answer ≡ Done → ⊥) → moved c za ≡ none
+refused_none : (c : Call) (za : List ℕ) → ((outcome c za).answer ≡ Ok tt → ⊥) → moved c za ≡ none
 refused_none c za n = go (call_ends c za)
   where
     go : CallEnds c za → moved c za ≡ none

@@ -1,5 +1,6 @@
 -- The theorems of specs/Listings.antt, word by word; and the listing that is written out, computed.
 -- Assumes nothing.
+use Rattle.std.specs.Prelude.{Result, ⊤, Ok, Err}
 use Prim.Native.Nat.{ℕ, zero, suc, ◌/◌, ◌<◌, ◌≤◌, min}
 use mathlib.Core.Path.{◌≡◌, refl, sym, ap, ◌∙◌}
 use mathlib.Core.Bool.{Bool, true, false, cond, true≢false}
@@ -21,8 +22,6 @@ use Rattle.tiles.specs.declared.element.ElementSize.TheVariants.{Bits32}
 use Rattle.tiles.specs.declared.direction.Direction.TheVariants.{Horizontal}
 use Rattle.semantics.specs.declared.answer.Refusal.{Refusal}
 use Rattle.semantics.specs.declared.answer.Refusal.TheVariants.{BadSettings}
-use Rattle.semantics.specs.declared.answer.Executed.{Executed}
-use Rattle.semantics.specs.declared.answer.Executed.TheVariants.{Done, Refused}
 use Rattle.semantics.specs.State.{State}
 use Rattle.semantics.specs.Effect.{writes_of, values_of, effect_of}
 use Rattle.semantics.specs.Execute.{access_answer, answer_of, if_done, execute_of}
@@ -49,10 +48,10 @@ pub listing_is_calls : ListingIsCalls
 unfolding run listing_calls listing_of
 listing_is_calls s l n t = go (buffers_checked s t) (is_whole l)
   where
-    go : (c : Executed) (b : Bool) → run (if_done c [] (cond b (calls_of s (allowed_in l n) t) [])) t.za ≡ (if_done c (not_run (Ended c) t) (cond b (ended (run_of s (allowed_in l n) t)) (not_run BadListing t))).state.za
-    go Done true = run_is_calls s (allowed_in l n) t
-    go Done false = refl
-    go (Refused r) b = refl
+    go : (c : Result ⊤ Refusal) (b : Bool) → run (if_done c [] (cond b (calls_of s (allowed_in l n) t) [])) t.za ≡ (if_done c (not_run (Ended c) t) (cond b (ended (run_of s (allowed_in l n) t)) (not_run BadListing t))).state.za
+    go (Ok _) true = run_is_calls s (allowed_in l n) t
+    go (Ok _) false = refl
+    go (Err r) b = refl
 
 -- ---- call by call
 
@@ -64,12 +63,12 @@ module _ (s : Settings) where
   calls_each (w ∷ ws) t d zero h = refl
   calls_each (w ∷ ws) t d (suc k) h = go (execute_of s w t).answer h (calls_each ws (execute_of s w t).state d k)
     where
-      go : (a : Executed) → suc k < suc (length (if_done a [] (calls_of s ws (execute_of s w t).state))) →
+      go : (a : Result ⊤ Refusal) → suc k < suc (length (if_done a [] (calls_of s ws (execute_of s w t).state))) →
           (k < length (calls_of s ws (execute_of s w t).state) → get_or (calls_of s ws (execute_of s w t).state) k d ≡ call_at s (get_or ws k 0) (run_of s (take k ws) (execute_of s w t).state).ending.state) →
           get_or (if_done a [] (calls_of s ws (execute_of s w t).state)) k d ≡
           call_at s (get_or ws k 0) (if_done a (record { words = 0; ending = execute_of s w t }) (one_more (run_of s (take k ws) (execute_of s w t).state))).ending.state
-      go Done h ih = ih (omega (arith, h))
-      go (Refused r) h ih = absurd (omega (arith, h))
+      go (Ok _) h ih = ih (omega (arith, h))
+      go (Err r) h ih = absurd (omega (arith, h))
 
   -- and meets the ZA that such a run leaves
   calls_met : (ws : List ℕ) (t : State) (k : ℕ) → k < length (calls_of s ws t) → run (take k (calls_of s ws t)) t.za ≡ (run_of s (take k ws) t).ending.state.za
@@ -78,12 +77,12 @@ module _ (s : Settings) where
   calls_met (w ∷ ws) t zero h = refl
   calls_met (w ∷ ws) t (suc k) h = go (execute_of s w t).answer h (calls_met ws (execute_of s w t).state k)
     where
-      go : (a : Executed) → suc k < suc (length (if_done a [] (calls_of s ws (execute_of s w t).state))) →
+      go : (a : Result ⊤ Refusal) → suc k < suc (length (if_done a [] (calls_of s ws (execute_of s w t).state))) →
           (k < length (calls_of s ws (execute_of s w t).state) → run (take k (calls_of s ws (execute_of s w t).state)) (execute_of s w t).state.za ≡ (run_of s (take k ws) (execute_of s w t).state).ending.state.za) →
           run (take k (if_done a [] (calls_of s ws (execute_of s w t).state))) (execute_of s w t).state.za ≡
           (if_done a (record { words = 0; ending = execute_of s w t }) (one_more (run_of s (take k ws) (execute_of s w t).state))).ending.state.za
-      go Done h ih = ih (omega (arith, h))
-      go (Refused r) h ih = absurd (omega (arith, h))
+      go (Ok _) h ih = ih (omega (arith, h))
+      go (Err r) h ih = absurd (omega (arith, h))
 
   -- there are as many as words are done, and one more where one is refused
   calls_many : (ws : List ℕ) (t : State) → length (calls_of s ws t) ≡ if_done (run_of s ws t).ending.answer (suc (run_of s ws t).words) (run_of s ws t).words
@@ -91,16 +90,16 @@ module _ (s : Settings) where
   calls_many [] t = refl
   calls_many (w ∷ ws) t = go (execute_of s w t).answer refl (calls_many ws (execute_of s w t).state)
     where
-      more : (a : Executed) (n : ℕ) → suc (if_done a (suc n) n) ≡ if_done a (suc (suc n)) (suc n)
-      more Done n = refl
-      more (Refused r) n = refl
+      more : (a : Result ⊤ Refusal) (n : ℕ) → suc (if_done a (suc n) n) ≡ if_done a (suc (suc n)) (suc n)
+      more (Ok _) n = refl
+      more (Err r) n = refl
 
-      go : (a : Executed) → (execute_of s w t).answer ≡ a →
+      go : (a : Result ⊤ Refusal) → (execute_of s w t).answer ≡ a →
           length (calls_of s ws (execute_of s w t).state) ≡ if_done (run_of s ws (execute_of s w t).state).ending.answer (suc (run_of s ws (execute_of s w t).state).words) (run_of s ws (execute_of s w t).state).words →
           (let r = if_done a (record { words = 0; ending = execute_of s w t }) (one_more (run_of s ws (execute_of s w t).state)) in
           suc (length (if_done a [] (calls_of s ws (execute_of s w t).state))) ≡ if_done r.ending.answer (suc r.words) r.words)
-      go Done e ih = ap suc ih ∙ more (run_of s ws (execute_of s w t).state).ending.answer (run_of s ws (execute_of s w t).state).words
-      go (Refused r) e ih = sym (ap (λ (a : Executed). if_done a 1 0) e)
+      go (Ok _) e ih = ap suc ih ∙ more (run_of s ws (execute_of s w t).state).ending.answer (run_of s ws (execute_of s w t).state).words
+      go (Err r) e ih = sym (ap (λ (a : Result ⊤ Refusal). if_done a 1 0) e)
 
   -- no more than words
   calls_few : (ws : List ℕ) (t : State) → length (calls_of s ws t) ≤ length ws
@@ -108,9 +107,9 @@ module _ (s : Settings) where
   calls_few [] t = omega arith
   calls_few (w ∷ ws) t = go (execute_of s w t).answer (calls_few ws (execute_of s w t).state)
     where
-      go : (a : Executed) → length (calls_of s ws (execute_of s w t).state) ≤ length ws → suc (length (if_done a [] (calls_of s ws (execute_of s w t).state))) ≤ suc (length ws)
-      go Done h = omega (arith, h)
-      go (Refused r) h = omega arith
+      go : (a : Result ⊤ Refusal) → length (calls_of s ws (execute_of s w t).state) ≤ length ws → suc (length (if_done a [] (calls_of s ws (execute_of s w t).state))) ≤ suc (length ws)
+      go (Ok _) h = omega (arith, h)
+      go (Err r) h = omega arith
 
 -- words were run, or were refused before any was
 abbrev has_ended : Listed → Bool
@@ -145,24 +144,24 @@ module _ (s : Settings) (l : List ℕ) (n : ℕ) (t : State) where
           ap (λ (ws : List ℕ). get_or ws k 0) allowed ∙ words_at l 0 (min n (length l / 4)) k (below k h) ∙ ap (λ (j : ℕ). word_at l j) (zero-add k)
 
   -- what is claimed of calls and of the outcome by allowance
-  Are : Executed → List Call → (ℕ → ListingOutcome) → Type 0
+  Are : Result ⊤ Refusal → List Call → (ℕ → ListingOutcome) → Type 0
   Are c cs o =
       ((k : ℕ) → k < length cs → get_or cs k (call_at s 0 t) ≡ call_at s (word_at l k) (o k).state) ×
       ((k : ℕ) → k < length cs → run (take k cs) t.za ≡ (o k).state.za) ×
-      ((o n).run.answer ≡ Ended Done → length cs ≡ (o n).run.words) ×
-      ((r : Refusal) → c ≡ Done → (o n).run.answer ≡ Ended (Refused r) → length cs ≡ suc (o n).run.words) × ((r : Refusal) → c ≡ Refused r → cs ≡ []) × ((o n).run.answer ≡ BadListing → cs ≡ [])
+      ((o n).run.answer ≡ Ended (Ok tt) → length cs ≡ (o n).run.words) ×
+      ((r : Refusal) → c ≡ Ok tt → (o n).run.answer ≡ Ended (Err r) → length cs ≡ suc (o n).run.words) × ((r : Refusal) → c ≡ Err r → cs ≡ []) × ((o n).run.answer ≡ BadListing → cs ≡ [])
 
-  are : (c : Executed) (b : Bool) → Are c (if_done c [] (cond b (calls_of s (allowed_in l n) t) [])) (λ m. if_done c (not_run (Ended c) t) (cond b (ended (run_of s (allowed_in l m) t)) (not_run BadListing t)))
+  are : (c : Result ⊤ Refusal) (b : Bool) → Are c (if_done c [] (cond b (calls_of s (allowed_in l n) t) [])) (λ m. if_done c (not_run (Ended c) t) (cond b (ended (run_of s (allowed_in l m) t)) (not_run BadListing t)))
   unfolding Are
-  are Done true = (
+  are (Ok _) true = (
     each_allowed,
     met_allowed,
-    λ e. calls_many s (allowed_in l n) t ∙ ap (λ (a : Executed). if_done a (suc (run_of s (allowed_in l n) t).words) (run_of s (allowed_in l n) t).words) (ap unended e),
-    λ r c e. calls_many s (allowed_in l n) t ∙ ap (λ (a : Executed). if_done a (suc (run_of s (allowed_in l n) t).words) (run_of s (allowed_in l n) t).words) (ap unended e),
+    λ e. calls_many s (allowed_in l n) t ∙ ap (λ (a : Result ⊤ Refusal). if_done a (suc (run_of s (allowed_in l n) t).words) (run_of s (allowed_in l n) t).words) (ap unended e),
+    λ r c e. calls_many s (allowed_in l n) t ∙ ap (λ (a : Result ⊤ Refusal). if_done a (suc (run_of s (allowed_in l n) t).words) (run_of s (allowed_in l n) t).words) (ap unended e),
     λ r e. absurd (refused_not_done r (sym e)),
     λ e. absurd (true≢false (ap has_ended e)),
   )
-  are Done false = (
+  are (Ok _) false = (
     λ k h. absurd (omega (arith, h)),
     λ k h. absurd (omega (arith, h)),
     λ e. absurd (refused_not_done BadSettings (ap unended e)),
@@ -170,7 +169,7 @@ module _ (s : Settings) (l : List ℕ) (n : ℕ) (t : State) where
     λ r e. absurd (refused_not_done r (sym e)),
     λ e. refl,
   )
-  are (Refused r) b = (λ k h. absurd (omega (arith, h)), λ k h. absurd (omega (arith, h)), λ e. absurd (refused_not_done r (ap unended e)), λ q c e. absurd (refused_not_done r c), λ q e. refl, λ e. absurd (true≢false (ap has_ended e)))
+  are (Err r) b = (λ k h. absurd (omega (arith, h)), λ k h. absurd (omega (arith, h)), λ e. absurd (refused_not_done r (ap unended e)), λ q c e. absurd (refused_not_done r c), λ q e. refl, λ e. absurd (true≢false (ap has_ended e)))
 
   listing_calls_are : CallsAre s l n t
   unfolding Are listing_calls listing_of

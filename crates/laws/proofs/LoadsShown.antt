@@ -1,5 +1,6 @@
 -- The theorems of specs/LoadsShown.antt: that the calls are done is computed, what they leave is by the laws.
 -- Assumes nothing.
+use Rattle.std.specs.Prelude.{Result, ⊤, Ok}
 use Prim.Native.Nat.{ℕ, ◌*◌, ◌<◌}
 use mathlib.Core.Path.{◌≡◌, refl, ap, ◌∙◌}
 use mathlib.Core.Bool.{Bool, true, false}
@@ -20,9 +21,8 @@ use Rattle.tiles.specs.declared.direction.Direction.TheVariants.{Horizontal, Ver
 use Rattle.tiles.specs.Predicate.{bit, active}
 use Rattle.tiles.specs.Tile.{byte_of, slice_at}
 use Rattle.tiles.specs.Group.{group_at}
+use Rattle.semantics.specs.declared.answer.Refusal.{Refusal}
 use Rattle.semantics.specs.Answer.{executed_number}
-use Rattle.semantics.specs.declared.answer.Executed.{Executed}
-use Rattle.semantics.specs.declared.answer.Executed.TheVariants.{Done}
 use Rattle.semantics.specs.State.{public_of}
 use Rattle.semantics.specs.ExampleBuffers.{settings_at}
 use Rattle.semantics.specs.Effect.{writes_of, values_of, effect_of}
@@ -35,7 +35,7 @@ use Rattle.laws.specs.LoadsShown.{zeroing_calls, ZeroingWrites, LoadsWrite, part
 use Rattle.laws.proofs.CallLaws.{run_long}
 use Rattle.laws.proofs.Between.{loads_have_places, loads_do_not_leave, loads_zero, loads_stay_out, zeroing_does_not_leave, zeroing_stays_out}
 
-zeroing_done : (za : List ℕ) → length za ≡ 256 → Each (λ (c : Call). (outcome c za).answer ≡ Done) zeroing_calls
+zeroing_done : (za : List ℕ) → length za ≡ 256 → Each (λ (c : Call). (outcome c za).answer ≡ Ok tt) zeroing_calls
 unfolding table row_of_word decode_of is_vector_length answer_of execute_of
 zeroing_done za e = (rw e refl, (rw e refl, tt))
 
@@ -61,14 +61,14 @@ loads_write = record { done = refl; before = (refl, refl); after = refl }
 
 -- ---- loads under partial predicates
 
-answers : (za : List ℕ) → length za ≡ 256 → Each (λ (c : Call). (outcome c za).answer ≡ Done) partial_loads
+answers : (za : List ℕ) → length za ≡ 256 → Each (λ (c : Call). (outcome c za).answer ≡ Ok tt) partial_loads
 unfolding table row_of_word decode_of is_vector_length active least access_answer answer_of execute_of
 answers za e = (rw e refl, (rw e refl, (rw e refl, tt)))
 
 -- calls that are done one by one
-numbers_zero : (cs : List Call) (za : List ℕ) → Each (λ (c : Call). (outcome c za).answer ≡ Done) cs → numbers_at cs za ≡ replicate (length cs) 0
+numbers_zero : (cs : List Call) (za : List ℕ) → Each (λ (c : Call). (outcome c za).answer ≡ Ok tt) cs → numbers_at cs za ≡ replicate (length cs) 0
 numbers_zero [] za h = refl
-numbers_zero (c ∷ cs) za h = ap (λ (a : Executed). executed_number a ∷ numbers_at cs za) h.0 ∙ ap (λ (r : List ℕ). 0 ∷ r) (numbers_zero cs za h.1)
+numbers_zero (c ∷ cs) za h = ap (λ (a : Result ⊤ Refusal). executed_number a ∷ numbers_at cs za) h.0 ∙ ap (λ (r : List ℕ). 0 ∷ r) (numbers_zero cs za h.1)
 
 -- bytes that are zero one by one
 bytes_zero : (c : Call) (za l : List ℕ) → Each (λ (p : ℕ). get_or (za_after c za) p 0 ≡ 0) l → bytes_after c za l ≡ replicate (length l) 0

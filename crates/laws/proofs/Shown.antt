@@ -1,5 +1,6 @@
 -- The theorems of specs/Shown.antt: every choice of its calls is ready, and refused calls stand before, between and after them.
 -- Assumes nothing.
+use Rattle.std.specs.Prelude.{Result, ⊤, Ok}
 use Prim.Native.Nat.{ℕ, zero, suc, ◌+◌, ◌*◌, ◌-◌, ◌%◌, ◌^◌, ◌<◌}
 use mathlib.Core.Path.{◌≡◌, refl, sym, ap, ◌∙◌}
 use mathlib.Core.List.{List, [], ◌∷◌, ◌++◌, map}
@@ -20,8 +21,7 @@ use Rattle.tiles.specs.declared.element.ElementSize.TheVariants.{Bits32}
 use Rattle.tiles.specs.declared.direction.Direction.{Direction}
 use Rattle.general.specs.Least.{least}
 use Rattle.tiles.specs.Predicate.{active}
-use Rattle.semantics.specs.declared.answer.Executed.{Executed}
-use Rattle.semantics.specs.declared.answer.Executed.TheVariants.{Done}
+use Rattle.semantics.specs.declared.answer.Refusal.{Refusal}
 use Rattle.semantics.specs.Answer.{executed_number}
 use Rattle.semantics.specs.Execute.{access_answer, answer_of, execute_of}
 use Rattle.semantics.specs.ExampleBuffers.{bytes_from, za_at}
@@ -39,7 +39,7 @@ refusals_shown za e = rw e refl
 -- ---- calls that are refused at every ZA of a length
 
 -- an answer with a number above 0 is a refusal
-pub numbered : (a : Executed) (n : ℕ) → executed_number a ≡ suc n → a ≡ Done → ⊥
+pub numbered : (a : Result ⊤ Refusal) (n : ℕ) → executed_number a ≡ suc n → a ≡ Ok tt → ⊥
 numbered a n e q = let z : ◌≡◌ {A = ℕ} 0 (suc n) = sym (ap executed_number q) ∙ e in omega arith
 
 -- calls with such answers may stand in a row anywhere in a crossing list

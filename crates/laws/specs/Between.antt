@@ -3,7 +3,7 @@
 -- move to a tile with no active element. An array move and zero that is done writes ZA and may not run between; nor may a load that is done,
 -- which sets the inactive elements of its slice to zero. No crossing list has either among its calls.
 -- Assumes nothing.
-use Rattle.std.specs.Prelude.{ℕ, ◌*◌, ◌/◌, ◌<◌, ◌≡◌, true, false, List, ◌∷◌, ◌++◌, get_or}
+use Rattle.std.specs.Prelude.{ℕ, ◌*◌, ◌/◌, ◌<◌, ◌≡◌, true, false, List, ◌∷◌, ◌++◌, get_or, Ok, Err}
 use Rattle.tiles.specs.Element.{bytes_of}
 use Rattle.tiles.specs.declared.element.ElementSize.{ElementSize}
 use Rattle.tiles.specs.declared.direction.Direction.{Direction}
@@ -14,7 +14,6 @@ use Rattle.encoding.specs.declared.operation.Operation.TheVariants.{MovaToTile, 
 use Rattle.encoding.specs.declared.operation.Decoded.TheVariants.{Done}
 use Rattle.tiles.specs.Predicate.{bit}
 use Rattle.tiles.specs.Tile.{byte_of}
-use Rattle.semantics.specs.declared.answer.Executed.TheVariants as executed
 use Rattle.semantics.specs.declared.answer.Refusal.{Refusal}
 use Rattle.semantics.specs.State.{Public, public_of}
 use Rattle.semantics.specs.Effect.{writes_of}
@@ -28,7 +27,7 @@ use Rattle.laws.specs.Crossing.{Crosses}
 
 -- a call that does not write the ZA that it meets: it is refused, or no place of ZA is written
 pub data LeavesZa (c : Call) (za : List ℕ) : Type 0 where
-  refused : (r : Refusal) → (outcome c za).answer ≡ executed.Refused r → LeavesZa c za
+  refused : (r : Refusal) → (outcome c za).answer ≡ Err r → LeavesZa c za
   idle : (o : Operation) → decoded_of c ≡ Done o → Idle (writes_of c.settings (public_of (state_with c za)) o).za → LeavesZa c za
 
 abbrev pub LeavesIsKept : Type 0
@@ -40,7 +39,7 @@ BesideMayRun = (before after : List Call) (c : Call) (za : List ℕ) → LeavesZ
 
 -- every call that is refused is one, whatever the answer
 abbrev pub RefusedLeaves : Type 0
-RefusedLeaves = (c : Call) (za : List ℕ) → ((outcome c za).answer ≡ executed.Done → ⊥) → LeavesZa c za
+RefusedLeaves = (c : Call) (za : List ℕ) → ((outcome c za).answer ≡ Ok tt → ⊥) → LeavesZa c za
 
 -- kinds of operation with no place in ZA leave every ZA
 abbrev pub Beside : Operation → Type 0
@@ -69,12 +68,12 @@ LoadsHavePlaces =
     ((writes_of s u (Ld1 o)).za.count ≡ s.vector_bytes) × ((k : ℕ) → (writes_of s u (Ld1 o)).za.on k ≡ true)
 
 abbrev pub LoadsDoNotLeave : Type 0
-LoadsDoNotLeave = (c : Call) (za : List ℕ) (o : SliceAccess) → decoded_of c ≡ Done (Ld1 o) → (outcome c za).answer ≡ executed.Done → LeavesZa c za → ⊥
+LoadsDoNotLeave = (c : Call) (za : List ℕ) (o : SliceAccess) → decoded_of c ≡ Done (Ld1 o) → (outcome c za).answer ≡ Ok tt → LeavesZa c za → ⊥
 
 -- a load that is done leaves zero in every byte of an inactive element of its slice: in all of them where none is active
 abbrev pub LoadsZero : Type 0
 LoadsZero =
-    (c : Call) (za : List ℕ) (o : SliceAccess) (e i : ℕ) → decoded_of c ≡ Done (Ld1 o) → (outcome c za).answer ≡ executed.Done →
+    (c : Call) (za : List ℕ) (o : SliceAccess) (e i : ℕ) → decoded_of c ≡ Done (Ld1 o) → (outcome c za).answer ≡ Ok tt →
     let S = stride_of c.settings in let B = c.settings.vector_bytes in let m = bytes_of o.slice.size in
     e < B / m → i < m → bit c.p (o.pg * (S / 8)) (e * m) ≡ false →
     get_or (za_after c za) (byte_of S m o.slice.tile o.slice.direction (slice_number_of B c.x o.slice) e i) 0 ≡ 0
@@ -83,14 +82,14 @@ LoadsZero =
 abbrev pub LoadsStayOut : Type 0
 LoadsStayOut =
     (S B : ℕ) (size : ElementSize) (d : Direction) (t : ℕ) (before after : List Call) (c : Call) (za : List ℕ) (o : SliceAccess) →
-    decoded_of c ≡ Done (Ld1 o) → (outcome c (run before za)).answer ≡ executed.Done → Crosses S B size d t (before ++ c ∷ after) za → ⊥
+    decoded_of c ≡ Done (Ld1 o) → (outcome c (run before za)).answer ≡ Ok tt → Crosses S B size d t (before ++ c ∷ after) za → ⊥
 
 -- nor does an array move and zero of two or four that is done leave ZA, and no crossing list has one
 abbrev pub ZeroingDoesNotLeave : Type 0
 ZeroingDoesNotLeave =
-    (c : Call) (za : List ℕ) (o : ArrayToVectors) → decoded_of c ≡ Done (MovazFromArray o) → (outcome c za).answer ≡ executed.Done → LeavesZa c za → ⊥
+    (c : Call) (za : List ℕ) (o : ArrayToVectors) → decoded_of c ≡ Done (MovazFromArray o) → (outcome c za).answer ≡ Ok tt → LeavesZa c za → ⊥
 
 abbrev pub ZeroingStaysOut : Type 0
 ZeroingStaysOut =
     (S B : ℕ) (size : ElementSize) (d : Direction) (t : ℕ) (before after : List Call) (c : Call) (za : List ℕ) (o : ArrayToVectors) →
-    decoded_of c ≡ Done (MovazFromArray o) → (outcome c (run before za)).answer ≡ executed.Done → Crosses S B size d t (before ++ c ∷ after) za → ⊥
+    decoded_of c ≡ Done (MovazFromArray o) → (outcome c (run before za)).answer ≡ Ok tt → Crosses S B size d t (before ++ c ∷ after) za → ⊥

@@ -3,7 +3,7 @@
 -- name, every level at which its word decodes (1 to 3 into a tile, 3 out of it), and any content of X, of the vectors, of the
 -- predicates, of memory and of ZA; and refused calls in them.
 -- Assumes nothing.
-use Rattle.std.specs.Prelude.{ℕ, zero, suc, ◌+◌, ◌*◌, ◌-◌, ◌/◌, ◌%◌, ◌^◌, ◌<◌, ◌≤◌, ◌≡◌, true, List, [], ◌∷◌, ◌++◌, map, length, get_or, set, replicate}
+use Rattle.std.specs.Prelude.{ℕ, zero, suc, ◌+◌, ◌*◌, ◌-◌, ◌/◌, ◌%◌, ◌^◌, ◌<◌, ◌≤◌, ◌≡◌, true, List, [], ◌∷◌, ◌++◌, map, length, get_or, set, replicate, Ok}
 use Rattle.settings.specs.Settings.{max_level, settings_of}
 use Rattle.settings.specs.Claims.{Fitting}
 use Rattle.settings.specs.declared.Settings.{Settings}
@@ -15,7 +15,6 @@ use Rattle.tiles.specs.declared.direction.Direction.{Direction}
 use Rattle.encoding.specs.declared.operation.Operation.{Operation}
 use Rattle.encoding.specs.declared.operation.Operation.TheVariants.{MovaToTile, MovazFromTile}
 use Rattle.tiles.specs.Direction.{flip}
-use Rattle.semantics.specs.declared.answer.Executed.TheVariants.{Done}
 use Rattle.semantics.specs.ExampleBuffers.{switched}
 use Rattle.laws.specs.Calls.{Call, outcome, run}
 use Rattle.laws.specs.Crossing.{EachOnce, slices_of, Crosses}
@@ -125,4 +124,4 @@ OrdersExist = (n : ℕ) → EachOnce n (down_from n) × Below n (down_from n)
 abbrev pub RefusedMayStand : Type 0
 RefusedMayStand =
     (S B : ℕ) (size : ElementSize) (d : Direction) (t : ℕ) (before after : List Call) (c : Call) (za : List ℕ) →
-    Crosses S B size d t (before ++ after) za → ((outcome c (run before za)).answer ≡ Done → ⊥) → Crosses S B size d t (before ++ c ∷ after) za
+    Crosses S B size d t (before ++ after) za → ((outcome c (run before za)).answer ≡ Ok tt → ⊥) → Crosses S B size d t (before ++ c ∷ after) za

@@ -1,14 +1,13 @@
 -- A listing and the list of calls that it makes. In the crossing law each word that is run counts as a call by itself, and a listing never as one call (request 5).
 -- To believe: `listing_calls`, and what `ListingCrosses` is handed.
 -- Assumes nothing.
-use Rattle.std.specs.Prelude.{ℕ, suc, ◌+◌, ◌*◌, ◌-◌, ◌^◌, ◌<◌, ◌≡◌, cond, List, [], ◌∷◌, ◌++◌, map, length, get_or, take, replicate}
+use Rattle.std.specs.Prelude.{ℕ, suc, ◌+◌, ◌*◌, ◌-◌, ◌^◌, ◌<◌, ◌≡◌, cond, List, [], ◌∷◌, ◌++◌, map, length, get_or, take, replicate, Ok, Err}
 use Rattle.settings.specs.declared.Settings.{Settings}
 use Rattle.tiles.specs.Predicate.{bit}
 use Rattle.tiles.specs.Tile.{byte_of}
 use Rattle.tiles.specs.declared.element.ElementSize.TheVariants.{Bits32}
 use Rattle.tiles.specs.declared.direction.Direction.TheVariants.{Horizontal}
 use Rattle.semantics.specs.declared.answer.Refusal.{Refusal}
-use Rattle.semantics.specs.declared.answer.Executed.TheVariants.{Done, Refused}
 use Rattle.semantics.specs.State.{State, state_of}
 use Rattle.semantics.specs.Execute.{if_done}
 use Rattle.semantics.specs.ExampleBuffers.{vector_in, settings_at, z_at, za_at, x_with, vectors}
@@ -33,9 +32,9 @@ ListingIsCalls = (s : Settings) (l : List ℕ) (n : ℕ) (t : State) → run (li
 pub record CallsAre (s : Settings) (l : List ℕ) (n : ℕ) (t : State) : Type 0 where
   pub each : (k : ℕ) → k < length (listing_calls s l n t) → get_or (listing_calls s l n t) k (call_at s 0 t) ≡ call_at s (word_at l k) (listing_of s l k t).state
   pub met : (k : ℕ) → k < length (listing_calls s l n t) → run (take k (listing_calls s l n t)) t.za ≡ (listing_of s l k t).state.za
-  pub done : (listing_of s l n t).run.answer ≡ Ended Done → length (listing_calls s l n t) ≡ (listing_of s l n t).run.words
-  pub stopped : (r : Refusal) → buffers_checked s t ≡ Done → (listing_of s l n t).run.answer ≡ Ended (Refused r) → length (listing_calls s l n t) ≡ suc (listing_of s l n t).run.words
-  pub early : (r : Refusal) → buffers_checked s t ≡ Refused r → listing_calls s l n t ≡ []
+  pub done : (listing_of s l n t).run.answer ≡ Ended (Ok tt) → length (listing_calls s l n t) ≡ (listing_of s l n t).run.words
+  pub stopped : (r : Refusal) → buffers_checked s t ≡ Ok tt → (listing_of s l n t).run.answer ≡ Ended (Err r) → length (listing_calls s l n t) ≡ suc (listing_of s l n t).run.words
+  pub early : (r : Refusal) → buffers_checked s t ≡ Err r → listing_calls s l n t ≡ []
   pub odd : (listing_of s l n t).run.answer ≡ BadListing → listing_calls s l n t ≡ []
 
 abbrev pub ListingCallsAre : Type 0

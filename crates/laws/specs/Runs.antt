@@ -2,10 +2,9 @@
 -- in which it changes nothing.
 -- To believe: `calls_of`.
 -- Assumes nothing.
-use Rattle.std.specs.Prelude.{ℕ, ◌≡◌, List, [], ◌∷◌, ◌++◌}
+use Rattle.std.specs.Prelude.{ℕ, ◌≡◌, List, [], ◌∷◌, ◌++◌, Ok, Err}
 use Rattle.settings.specs.declared.Settings.{Settings}
 use Rattle.semantics.specs.declared.answer.Refusal.{Refusal}
-use Rattle.semantics.specs.declared.answer.Executed.TheVariants.{Done, Refused}
 use Rattle.semantics.specs.State.{State}
 use Rattle.semantics.specs.Execute.{if_done, execute_of}
 use Rattle.semantics.specs.Run.{run_of}
@@ -27,8 +26,8 @@ RunIsCalls = (s : Settings) (ws : List ℕ) (t : State) → run (calls_of s ws t
 -- are not, there are no more
 pub record CallsGoOn (s : Settings) (t : State) : Type 0 where
   pub one : (w : ℕ) → calls_of s (w ∷ []) t ≡ call_at s w t ∷ []
-  pub more : (ws vs : List ℕ) → (run_of s ws t).ending.answer ≡ Done → calls_of s (ws ++ vs) t ≡ calls_of s ws t ++ calls_of s vs (run_of s ws t).ending.state
-  pub stops : (ws vs : List ℕ) (r : Refusal) → (run_of s ws t).ending.answer ≡ Refused r → calls_of s (ws ++ vs) t ≡ calls_of s ws t
+  pub more : (ws vs : List ℕ) → (run_of s ws t).ending.answer ≡ Ok tt → calls_of s (ws ++ vs) t ≡ calls_of s ws t ++ calls_of s vs (run_of s ws t).ending.state
+  pub stops : (ws vs : List ℕ) (r : Refusal) → (run_of s ws t).ending.answer ≡ Err r → calls_of s (ws ++ vs) t ≡ calls_of s ws t
 
 abbrev pub CallsAreOfWords : Type 0
 CallsAreOfWords = (s : Settings) (t : State) → CallsGoOn s t

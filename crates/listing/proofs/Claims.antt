@@ -1,5 +1,6 @@
 -- Each theorem of specs/Claims.antt.
 -- Assumes nothing.
+use Rattle.std.specs.Prelude.{Result, ⊤, Ok, Err}
 use Prim.Native.Nat.{ℕ, zero, suc, ◌+◌, ◌*◌, ◌-◌, ◌/◌, ◌%◌, ◌<◌, ◌≤◌, min}
 use mathlib.Core.Path.{◌≡◌, refl, sym, ap, ◌∙◌, subst}
 use mathlib.Core.Bool.{Bool, true, false, cond, true≢false}
@@ -17,8 +18,6 @@ use Rattle.settings.specs.declared.Settings.{Settings}
 use Rattle.encoding.specs.Codec.{decode_of}
 use Rattle.semantics.specs.declared.answer.Refusal.{Refusal}
 use Rattle.semantics.specs.declared.answer.Refusal.TheVariants.{BadSettings, BadLengths}
-use Rattle.semantics.specs.declared.answer.Executed.{Executed}
-use Rattle.semantics.specs.declared.answer.Executed.TheVariants.{Done, Refused}
 use Rattle.semantics.specs.Answer.{executed_number}
 use Rattle.semantics.specs.State.{State, public_of}
 use Rattle.semantics.specs.Execute.{word_answer, word_effect, answer_of, if_done, Outcome, execute_of}
@@ -67,13 +66,13 @@ module _ (s : Settings) (l : List ℕ) (n : ℕ) (t : State) where
   unfolding listing_of
   listing_either P early ran = go (buffers_checked s t) refl (is_whole l)
     where
-      go : (c : Executed) → buffers_checked s t ≡ c → (b : Bool) → P (if_done c (not_run (Ended c) t) (cond b (ended (run_of s (allowed_in l n) t)) (not_run BadListing t)))
-      go Done e true = ran (buffers_done s _ _ _ _ _ Done e).0
-      go Done e false = early BadListing
-      go (Refused r) e b = early (Ended (Refused r))
+      go : (c : Result ⊤ Refusal) → buffers_checked s t ≡ c → (b : Bool) → P (if_done c (not_run (Ended c) t) (cond b (ended (run_of s (allowed_in l n) t)) (not_run BadListing t)))
+      go (Ok _) e true = ran (buffers_done s _ _ _ _ _ (Ok tt) e).0
+      go (Ok _) e false = early BadListing
+      go (Err r) e b = early (Ended (Err r))
 
   -- settings and lengths are right
-  both_right : valid_settings s ≡ true → right_lengths s t ≡ true → buffers_checked s t ≡ Done
+  both_right : valid_settings s ≡ true → right_lengths s t ≡ true → buffers_checked s t ≡ Ok tt
   both_right v r = rw (v, r)
 
   -- ---- what it does
@@ -100,7 +99,7 @@ module _ (s : Settings) (l : List ℕ) (n : ℕ) (t : State) where
       number : ℕ
       number = listed_number (listing_of s l n t).run.answer
 
-      answer : Executed
+      answer : Result ⊤ Refusal
       answer = (run_of s (allowed_in l n) t).ending.answer
 
       named : (o : ListingOutcome) → listing_of s l n t ≡ o → number ≡ listed_number o.run.answer
@@ -121,7 +120,7 @@ module _ (s : Settings) (l : List ℕ) (n : ℕ) (t : State) where
           record { one = λ q. absurd (omega (arith, e, q)); two = λ q. absurd (omega (arith, e, q)); nine = λ q. (v, r, odd w) }
       go true true true v r w =
           let e = named _ (sym (ran v r (eqb-true _ _ w))) in
-          let later = later_run s (allowed_in l n) t (buffers_done s _ _ _ _ _ Done (both_right v r)).0 in
+          let later = later_run s (allowed_in l n) t (buffers_done s _ _ _ _ _ (Ok tt) (both_right v r)).0 in
           record {
             one = λ q. absurd (later_not answer 1 refl later (sym e ∙ q));
             two = λ q. absurd (later_not answer 2 refl later (sym e ∙ q));
@@ -131,14 +130,14 @@ module _ (s : Settings) (l : List ℕ) (n : ℕ) (t : State) where
   -- ---- bounds
 
   -- with 0 every word that may run is done
-  listing_reaches : (listing_of s l n t).run.answer ≡ Ended Done → (listing_of s l n t).run.words ≡ min n (length l / 4)
+  listing_reaches : (listing_of s l n t).run.answer ≡ Ended (Ok tt) → (listing_of s l n t).run.words ≡ min n (length l / 4)
   unfolding listing_of
   listing_reaches = go (buffers_checked s t) (is_whole l)
     where
-      go : (c : Executed) (b : Bool) → (let o = if_done c (not_run (Ended c) t) (cond b (ended (run_of s (allowed_in l n) t)) (not_run BadListing t)) in o.run.answer ≡ Ended Done → o.run.words ≡ min n (length l / 4))
-      go Done true e = run_all s (allowed_in l n) t (ap unended e) ∙ length-allowed l n
-      go Done false e = absurd (refused_not_done BadSettings (ap unended e))
-      go (Refused r) b e = absurd (refused_not_done r (ap unended e))
+      go : (c : Result ⊤ Refusal) (b : Bool) → (let o = if_done c (not_run (Ended c) t) (cond b (ended (run_of s (allowed_in l n) t)) (not_run BadListing t)) in o.run.answer ≡ Ended (Ok tt) → o.run.words ≡ min n (length l / 4))
+      go (Ok _) true e = run_all s (allowed_in l n) t (ap unended e) ∙ length-allowed l n
+      go (Ok _) false e = absurd (refused_not_done BadSettings (ap unended e))
+      go (Err r) b e = absurd (refused_not_done r (ap unended e))
 
   listing_bounded : ListingBounded s l n t
   listing_bounded = record { allowed = bounds.0; listed = bounds.1; reached = listing_reaches; kept = listing_either (λ (o : ListingOutcome). Keeps t o.state) (λ a. keeps_refl t) (λ h. run_keeps s (allowed_in l n) t) }
@@ -182,11 +181,11 @@ listings_determine = listing_determines
 -- ---- one word
 
 -- settings and lengths refuse every word alike
-buffers_refuse : (s : Settings) (w : ℕ) (t : State) (r : Refusal) → buffers_checked s t ≡ Refused r → execute_of s w t ≡ record { answer = Refused r; state = t }
+buffers_refuse : (s : Settings) (w : ℕ) (t : State) (r : Refusal) → buffers_checked s t ≡ Err r → execute_of s w t ≡ record { answer = Err r; state = t }
 unfolding execute_of answer_of
 buffers_refuse s w t r e = λ k. record { answer = answer k; state = if_done (answer k) t (word_effect s (decode_of w s.level) t) }
   where
-    answer : answer_of s w (public_of t) ≡ Refused r
+    answer : answer_of s w (public_of t) ≡ Err r
     answer = buffers_refused s (length t.x) (length t.z) (length t.p) (length t.za) (length t.memory) (word_answer s t.x t.p (length t.memory) (decode_of w s.level)) r e
 
 pub one_word_is_call : OneWordIsCall
@@ -210,11 +209,11 @@ one_word_is_call s l n t long h = go (buffers_checked s t) refl
     Is : ListingOutcome → Type 0
     Is q = (q.run ≡ record { words = if_done o.answer 0 1; answer = Ended o.answer }) × (q.state ≡ o.state)
 
-    go : (c : Executed) → buffers_checked s t ≡ c → Is (listing_of s l n t)
-    go (Refused r) e =
+    go : (c : Result ⊤ Refusal) → buffers_checked s t ≡ c → Is (listing_of s l n t)
+    go (Err r) e =
         let q = buffers_refuse s (word_at l 0) t r e in
         subst Is (buffers_end s l n t r e) (λ k. record { words = if_done (sym q k).answer 0 1; answer = Ended (sym q k).answer }, λ k. (sym q k).state)
-    go Done e =
+    go (Ok _) e =
         let f = run_goes_on s t in
         subst Is (ap (λ (ws : List ℕ). ended (run_of s ws t)) (sym allowed) ∙ length-ends s l n t true e whole)
         (λ k. record { words = f.counted (word_at l 0) k; answer = Ended (f.one (word_at l 0) k).answer }, λ k. (f.one (word_at l 0) k).state)
@@ -228,9 +227,9 @@ module _ (s : Settings) (l : List ℕ) (a b : ℕ) (t : State) where
 
   -- what is claimed of the first part
   Goes : ListingOutcome → Type 0
-  Goes f = f.run.answer ≡ Ended Done → listing_of s l (a + b) t ≡ joined f (listing_of s (drop (4 * f.run.words) l) b f.state)
+  Goes f = f.run.answer ≡ Ended (Ok tt) → listing_of s l (a + b) t ≡ joined f (listing_of s (drop (4 * f.run.words) l) b f.state)
 
-  module _ (checked : buffers_checked s t ≡ Done) (whole : length l % 4 ≡ 0) where
+  module _ (checked : buffers_checked s t ≡ Ok tt) (whole : length l % 4 ≡ 0) where
     -- the words of the first part, and of the second
     k : ℕ
     k = min a (length l / 4)
@@ -269,10 +268,10 @@ module _ (s : Settings) (l : List ℕ) (a b : ℕ) (t : State) where
             ap (λ (n : ℕ). take b (words_from rest 0 n)) rest_words ∙
             take_words rest 0 b (length l / 4 - k) m refl ∙ words_left l k 0 m ∙ ap (λ (j : ℕ). words_from l j m) (add-zero k ∙ sym (zero-add k))
 
-        still : buffers_checked s first.ending.state ≡ Done
+        still : buffers_checked s first.ending.state ≡ Ok tt
         still =
-            buffers_rest s _ _ _ _ _ Done
-            (sized_keeps s t first.ending.state (run_keeps s (words_from l 0 k) t) (buffers_done s (length t.x) (length t.z) (length t.p) (length t.za) (length t.memory) Done checked).0)
+            buffers_rest s _ _ _ _ _ (Ok tt)
+            (sized_keeps s t first.ending.state (run_keeps s (words_from l 0 k) t) (buffers_done s (length t.x) (length t.z) (length t.p) (length t.za) (length t.memory) (Ok tt) checked).0)
 
     -- the first part, which is done
     first_goes : Goes (ended first)
@@ -298,10 +297,10 @@ pub parts_are_whole : PartsAreWhole
 unfolding Goes joined k first
 parts_are_whole s l a b t = go (buffers_checked s t) (is_whole l) refl refl
   where
-    go : (c : Executed) (w : Bool) → buffers_checked s t ≡ c → is_whole l ≡ w → Goes s l a b t (listing_of s l a t)
-    go (Refused r) w c h = subst (Goes s l a b t) (buffers_end s l a t r c) (λ e. absurd (refused_not_done r (ap unended e)))
-    go Done false c h = subst (Goes s l a b t) (length-ends s l a t false c h) (λ e. absurd (refused_not_done BadSettings (ap unended e)))
-    go Done true c h =
+    go : (c : Result ⊤ Refusal) (w : Bool) → buffers_checked s t ≡ c → is_whole l ≡ w → Goes s l a b t (listing_of s l a t)
+    go (Err r) w c h = subst (Goes s l a b t) (buffers_end s l a t r c) (λ e. absurd (refused_not_done r (ap unended e)))
+    go (Ok _) false c h = subst (Goes s l a b t) (length-ends s l a t false c h) (λ e. absurd (refused_not_done BadSettings (ap unended e)))
+    go (Ok _) true c h =
         subst (Goes s l a b t)
         (ap (λ (ws : List ℕ). ended (run_of s ws t)) (sym (take_words l 0 a (length l / 4) (min a (length l / 4)) refl)) ∙ length-ends s l a t true c h)
         (first_goes s l a b t c (eqb-true (length l % 4) 0 h))

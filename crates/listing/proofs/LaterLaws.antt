@@ -1,5 +1,6 @@
 -- Answers that come after those of settings and lengths: once these are right no word is answered 1 or 2, and none is ever answered 9.
 -- Assumes nothing.
+use Rattle.std.specs.Prelude.{Result, ⊤, Ok, Err}
 use Prim.Native.Nat.{ℕ}
 use mathlib.Core.Path.{◌≡◌, refl, sym, ap, ◌∙◌, subst}
 use mathlib.Core.Bool.{Bool, true, false, not, ◌&&◌, true≢false}
@@ -16,8 +17,6 @@ use Rattle.encoding.specs.declared.operation.Decoded.{Decoded}
 use Rattle.encoding.specs.declared.operation.Decoded.TheVariants as decoded
 use Rattle.semantics.specs.declared.answer.Refusal.{Refusal}
 use Rattle.semantics.specs.declared.answer.Refusal.TheVariants.{StreamingOff, ZaOff, StackMisaligned}
-use Rattle.semantics.specs.declared.answer.Executed.{Executed}
-use Rattle.semantics.specs.declared.answer.Executed.TheVariants.{Done, Refused}
 use Rattle.semantics.specs.Answer.{executed_number}
 use Rattle.semantics.specs.State.{State}
 use Rattle.semantics.specs.Execute.{guard, fault_of, fault_answer, stack_bad, access_answer, operation_answer, word_answer, if_done, execute_of}
@@ -30,13 +29,13 @@ use Rattle.listing.proofs.RunLaws.{sized_keeps}
 abbrev is_later : ℕ → Bool
 is_later n = not (eqb n 1) && not (eqb n 2) && not (eqb n 9)
 
-abbrev pub Later : Executed → Type 0
+abbrev pub Later : Result ⊤ Refusal → Type 0
 Later a = is_later (executed_number a) ≡ true
 
-pub later_not : (a : Executed) (n : ℕ) → is_later n ≡ false → Later a → executed_number a ≡ n → ⊥
+pub later_not : (a : Result ⊤ Refusal) (n : ℕ) → is_later n ≡ false → Later a → executed_number a ≡ n → ⊥
 later_not a n e h q = true≢false (sym h ∙ ap is_later q ∙ e)
 
-later_guard : (b : Bool) (r : Refusal) (rest : Executed) → Later (Refused r) → Later rest → Later (guard b r rest)
+later_guard : (b : Bool) (r : Refusal) (rest : Result ⊤ Refusal) → Later (Err r) → Later rest → Later (guard b r rest)
 later_guard true r rest h g = g
 later_guard false r rest h g = h
 
@@ -75,6 +74,6 @@ later_run s (w ∷ ws) t h = go (execute_of s w t).answer refl (later_run s ws t
     t' : State
     t' = (execute_of s w t).state
 
-    go : (a : Executed) → a ≡ (execute_of s w t).answer → Later (run_of s ws t').ending.answer → Later (if_done a (record { words = 0; ending = execute_of s w t }) (one_more (run_of s ws t'))).ending.answer
-    go Done e ih = ih
-    go (Refused r) e ih = later_word s w t h
+    go : (a : Result ⊤ Refusal) → a ≡ (execute_of s w t).answer → Later (run_of s ws t').ending.answer → Later (if_done a (record { words = 0; ending = execute_of s w t }) (one_more (run_of s ws t'))).ending.answer
+    go (Ok _) e ih = ih
+    go (Err r) e ih = later_word s w t h

@@ -1,5 +1,6 @@
 -- Laws of specs/Listing.antt and specs/Promise.antt: the ways a listing ends, and that its answer is that of the table.
 -- Assumes nothing.
+use Rattle.std.specs.Prelude.{Result, ⊤, Ok, Err}
 use Prim.Native.Nat.{ℕ}
 use mathlib.Core.Path.{◌≡◌, refl, sym, ap, ◌∙◌}
 use mathlib.Core.Bool.{Bool, true, false, cond, not}
@@ -10,8 +11,6 @@ use Rattle.settings.specs.Settings.{valid_settings}
 use Rattle.settings.specs.declared.Settings.{Settings}
 use Rattle.semantics.specs.declared.answer.Refusal.{Refusal}
 use Rattle.semantics.specs.declared.answer.Refusal.TheVariants.{BadSettings, BadLengths, Undecodable, StreamingOff, ZaOff, StackMisaligned, OutsideMemory}
-use Rattle.semantics.specs.declared.answer.Executed.{Executed}
-use Rattle.semantics.specs.declared.answer.Executed.TheVariants.{Done, Refused}
 use Rattle.semantics.specs.Answer.{executed_answer}
 use Rattle.semantics.specs.State.{State}
 use Rattle.semantics.specs.Execute.{guard, if_done, execute_of}
@@ -26,14 +25,14 @@ use Rattle.listing.specs.Promise.{words_in_numbers, listing_in_numbers, RunsList
 use Rattle.listing.specs.Steps.{EndsAs}
 
 -- how words ended; a refusal where none ran
-abbrev pub unended : Listed → Executed
-unended BadListing = Refused BadSettings
+abbrev pub unended : Listed → Result ⊤ Refusal
+unended BadListing = Err BadSettings
 unended (Ended e) = e
 
 -- ---- the answer in numbers
 
 -- a refusal is no 0
-refused_number : (r : Refusal) (a b : Answer) → cond (eqb (executed_answer (Refused r)).number done) a b ≡ b
+refused_number : (r : Refusal) (a b : Answer) → cond (eqb (executed_answer (Err r)).number done) a b ≡ b
 refused_number BadSettings a b = refl
 refused_number BadLengths a b = refl
 refused_number Undecodable a b = refl
@@ -53,11 +52,11 @@ words_agree s (w ∷ ws) t =
     rest : Ran
     rest = run_of s ws (execute_of s w t).state
 
-    go : (a : Executed) → (execute_of s w t).answer ≡ a → executed_answer rest.ending.answer ≡ words_in_numbers s ws (execute_of s w t).state →
+    go : (a : Result ⊤ Refusal) → (execute_of s w t).answer ≡ a → executed_answer rest.ending.answer ≡ words_in_numbers s ws (execute_of s w t).state →
         executed_answer (if_done a (record { words = 0; ending = execute_of s w t }) (one_more rest)).ending.answer ≡
         cond (eqb (executed_answer a).number done) (words_in_numbers s ws (execute_of s w t).state) (executed_answer a)
-    go Done e ih = ih
-    go (Refused r) e ih = ap executed_answer e ∙ sym (refused_number r _ _)
+    go (Ok _) e ih = ih
+    go (Err r) e ih = ap executed_answer e ∙ sym (refused_number r _ _)
 
 module _ (s : Settings) (l : List ℕ) (n : ℕ) (t : State) where
   -- both definitions of the answer agree
@@ -65,8 +64,8 @@ module _ (s : Settings) (l : List ℕ) (n : ℕ) (t : State) where
   unfolding listing_of listing_in_numbers
   listing_agrees = go (valid_settings s) (right_lengths s t) (is_whole l)
     where
-      checked : Bool → Bool → Executed
-      checked a b = guard a BadSettings (guard b BadLengths Done)
+      checked : Bool → Bool → Result ⊤ Refusal
+      checked a b = guard a BadSettings (guard b BadLengths (Ok tt))
 
       go : (a b c : Bool) →
           listed_answer (if_done (checked a b) (not_run (Ended (checked a b)) t) (cond c (ended (run_of s (allowed_in l n) t)) (not_run BadListing t))).run.answer ≡
@@ -88,17 +87,17 @@ module _ (s : Settings) (l : List ℕ) (n : ℕ) (t : State) where
       }
 
   -- by settings and lengths
-  pub buffers_end : (r : Refusal) → buffers_checked s t ≡ Refused r → not_run (Ended (Refused r)) t ≡ listing_of s l n t
+  pub buffers_end : (r : Refusal) → buffers_checked s t ≡ Err r → not_run (Ended (Err r)) t ≡ listing_of s l n t
   unfolding listing_of
-  buffers_end r e = ap (λ (c : Executed). if_done c (not_run (Ended c) t) (cond (is_whole l) (ended (run_of s (allowed_in l n) t)) (not_run BadListing t))) (sym e)
+  buffers_end r e = ap (λ (c : Result ⊤ Refusal). if_done c (not_run (Ended c) t) (cond (is_whole l) (ended (run_of s (allowed_in l n) t)) (not_run BadListing t))) (sym e)
 
   -- by the listing's length, or as its words do
-  pub length-ends : (b : Bool) → buffers_checked s t ≡ Done → is_whole l ≡ b → cond b (ended (run_of s (allowed_in l n) t)) (not_run BadListing t) ≡ listing_of s l n t
+  pub length-ends : (b : Bool) → buffers_checked s t ≡ Ok tt → is_whole l ≡ b → cond b (ended (run_of s (allowed_in l n) t)) (not_run BadListing t) ≡ listing_of s l n t
   unfolding listing_of
   length-ends b e q =
       ap (λ (b : Bool). cond b (ended (run_of s (allowed_in l n) t)) (not_run BadListing t)) (sym q) ∙
-      ap (λ (c : Executed). if_done c (not_run (Ended c) t) (cond (is_whole l) (ended (run_of s (allowed_in l n) t)) (not_run BadListing t))) (sym e)
+      ap (λ (c : Result ⊤ Refusal). if_done c (not_run (Ended c) t) (cond (is_whole l) (ended (run_of s (allowed_in l n) t)) (not_run BadListing t))) (sym e)
 
-  pub words_end : buffers_checked s t ≡ Done → is_whole l ≡ true → (ran : Ran) → ran ≡ run_of s (allowed_in l n) t → (r : ListingRun) (t' : State) → EndsAs ran r t' → RunsListing s l n t r t'
+  pub words_end : buffers_checked s t ≡ Ok tt → is_whole l ≡ true → (ran : Ran) → ran ≡ run_of s (allowed_in l n) t → (r : ListingRun) (t' : State) → EndsAs ran r t' → RunsListing s l n t r t'
   words_end e q ran same r t' f =
       definition_runs (record { run = r; state = t' }) ((λ k. record { run = f.0 k; state = f.1 k }) ∙ ap ended same ∙ length-ends true e q)

@@ -1,5 +1,6 @@
 -- Laws of a run of words: what it keeps, and while it goes on what is left of it after some words are done.
 -- Assumes nothing.
+use Rattle.std.specs.Prelude.{Result, ⊤, Ok, Err}
 use Prim.Native.Nat.{ℕ, zero, suc, ◌+◌, ◌<◌, ◌≤◌}
 use mathlib.Core.Path.{◌≡◌, refl, sym, ap, ◌∙◌, subst}
 use mathlib.Core.List.{List}
@@ -8,8 +9,6 @@ use native.Mathlib.Omega.{arith}
 use lib.ListN.{length}
 use Rattle.settings.specs.declared.Settings.{Settings}
 use Rattle.semantics.specs.declared.answer.Refusal.{Refusal}
-use Rattle.semantics.specs.declared.answer.Executed.{Executed}
-use Rattle.semantics.specs.declared.answer.Executed.TheVariants.{Done, Refused}
 use Rattle.semantics.specs.State.{State}
 use Rattle.semantics.specs.Execute.{Outcome, if_done, execute_of}
 use Rattle.semantics.specs.Run.{Ran, one_more, run_of}
@@ -60,7 +59,7 @@ pub words_on-none : (i : ℕ) (o : Outcome) → words_on i (record { words = 0; 
 words_on-none i o = λ k. record { words = add-zero i k; ending = o }
 
 -- a run that ended so, as its function gives it
-ends_as : (ran : Ran) (i : ℕ) (a : Executed) (t' : State) → ran ≡ record { words = i; ending = record { answer = a; state = t' } } → EndsAs ran (record { words = i; answer = Ended a }) t'
+ends_as : (ran : Ran) (i : ℕ) (a : Result ⊤ Refusal) (t' : State) → ran ≡ record { words = i; ending = record { answer = a; state = t' } } → EndsAs ran (record { words = i; answer = Ended a }) t'
 ends_as ran i a t' e = (λ k. record { words = (sym e k).words; answer = Ended (sym e k).ending.answer }, λ k. (sym e k).ending.state)
 
 module _ (s : Settings) (l : List ℕ) (n : ℕ) (t : State) where
@@ -82,24 +81,24 @@ module _ (s : Settings) (l : List ℕ) (n : ℕ) (t : State) where
     onward_sized = sized_keeps s t t' o.kept
 
     -- at the end all are done
-    pub onward_ends : i ≤ n → n ≤ i → EndsAs (run_of s (words_from l 0 n) t) (record { words = n; answer = Ended Done }) t'
+    pub onward_ends : i ≤ n → n ≤ i → EndsAs (run_of s (words_from l 0 n) t) (record { words = n; answer = Ended (Ok tt) }) t'
     unfolding run_of words_from
     onward_ends h g = go o.left o.sum o.rest
       where
         i_is : i ≡ n
         i_is = omega (arith, h, g)
 
-        go : (m : ℕ) → i + m ≡ n → run_of s (words_from l 0 n) t ≡ words_on i (run_of s (words_from l i m) t') → EndsAs (run_of s (words_from l 0 n) t) (record { words = n; answer = Ended Done }) t'
-        go zero q p = ends_as _ n Done t' (p ∙ words_on-none i (record { answer = Done; state = t' }) ∙ ap (λ (j : ℕ). record { words = j; ending = record { answer = Done; state = t' } }) i_is)
+        go : (m : ℕ) → i + m ≡ n → run_of s (words_from l 0 n) t ≡ words_on i (run_of s (words_from l i m) t') → EndsAs (run_of s (words_from l 0 n) t) (record { words = n; answer = Ended (Ok tt) }) t'
+        go zero q p = ends_as _ n (Ok tt) t' (p ∙ words_on-none i (record { answer = Ok tt; state = t' }) ∙ ap (λ (j : ℕ). record { words = j; ending = record { answer = Ok tt; state = t' } }) i_is)
         go (suc m) q p = absurd (omega (arith, g, q))
 
-    module _ (w : ℕ) (a : Executed) (t'' : State) (h : i < n) (same : w ≡ word_at l i) (x : Executes s w t' a t'') where
+    module _ (w : ℕ) (a : Result ⊤ Refusal) (t'' : State) (h : i < n) (same : w ≡ word_at l i) (x : Executes s w t' a t'') where
       -- what the next word leaves has the lengths that were
       pub onward_kept : Keeps t t''
       onward_kept = keeps_trans t t' t'' o.kept (subst (Keeps t') (sym x.state) (execution_keeps s w t'))
 
       -- what is left, with the next word before it
-      next : Executed → Outcome → ℕ → Ran
+      next : Result ⊤ Refusal → Outcome → ℕ → Ran
       next b r m = if_done b (record { words = 0; ending = r }) (one_more (run_of s (words_from l (suc i) m) r.state))
 
       -- the next word's outcome is what was given
@@ -113,7 +112,7 @@ module _ (s : Settings) (l : List ℕ) (n : ℕ) (t : State) where
       run_next (suc m) q p = (m, omega (arith, q), p ∙ ap (λ (r : Outcome). words_on i (next r.answer r m)) given)
 
       -- a done word goes on with the state that it left
-      pub onward_done : a ≡ Done → Onward (i + 1) t''
+      pub onward_done : a ≡ Ok tt → Onward (i + 1) t''
       unfolding next
       onward_done e =
           let f = run_next o.left o.sum o.rest in
@@ -123,13 +122,13 @@ module _ (s : Settings) (l : List ℕ) (n : ℕ) (t : State) where
             left = f.0;
             sum = f.1;
             kept = onward_kept;
-            rest = f.2 ∙ ap (λ (b : Executed). words_on i (next b (record { answer = a; state = t'' }) f.0)) e ∙ words_on-more i r;
+            rest = f.2 ∙ ap (λ (b : Result ⊤ Refusal). words_on i (next b (record { answer = a; state = t'' }) f.0)) e ∙ words_on-more i r;
           })
 
       -- a refused one is the last, and is not counted
-      pub onward_refused : (r : Refusal) → a ≡ Refused r → EndsAs (run_of s (words_from l 0 n) t) (record { words = i; answer = Ended a }) t''
+      pub onward_refused : (r : Refusal) → a ≡ Err r → EndsAs (run_of s (words_from l 0 n) t) (record { words = i; answer = Ended a }) t''
       unfolding next
       onward_refused r e =
           let f = run_next o.left o.sum o.rest in
           ends_as _ i a t''
-          (f.2 ∙ ap (λ (b : Executed). words_on i (next b (record { answer = a; state = t'' }) f.0)) e ∙ words_on-none i (record { answer = a; state = t'' }))
+          (f.2 ∙ ap (λ (b : Result ⊤ Refusal). words_on i (next b (record { answer = a; state = t'' }) f.0)) e ∙ words_on-none i (record { answer = a; state = t'' }))

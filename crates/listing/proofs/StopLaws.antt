@@ -1,5 +1,6 @@
 -- Laws of specs/Claims.antt: a run of words by what was done and what was not, word by word.
 -- Assumes nothing.
+use Rattle.std.specs.Prelude.{Result, ⊤, Ok, Err}
 use Prim.Native.Nat.{ℕ, suc, ◌+◌}
 use mathlib.Core.Path.{◌≡◌, refl, sym, ap, ◌∙◌, subst}
 use mathlib.Core.List.{List, [], ◌∷◌, ◌++◌}
@@ -7,8 +8,6 @@ use native.Mathlib.Omega.{arith}
 use lib.ListN.{length}
 use Rattle.settings.specs.declared.Settings.{Settings}
 use Rattle.semantics.specs.declared.answer.Refusal.{Refusal}
-use Rattle.semantics.specs.declared.answer.Executed.{Executed}
-use Rattle.semantics.specs.declared.answer.Executed.TheVariants.{Done, Refused}
 use Rattle.semantics.specs.State.{State}
 use Rattle.semantics.specs.Execute.{if_done, execute_of}
 use Rattle.semantics.specs.Run.{Ran, one_more, run_of}
@@ -24,7 +23,7 @@ use Rattle.listing.proofs.RunLaws.{keeps_refl, keeps_trans, words_on, words_on-n
 
 module _ (s : Settings) where
   -- a refused word leaves the state
-  refused_stays : (w : ℕ) (t : State) (r : Refusal) → (execute_of s w t).answer ≡ Refused r → (execute_of s w t).state ≡ t
+  refused_stays : (w : ℕ) (t : State) (r : Refusal) → (execute_of s w t).answer ≡ Err r → (execute_of s w t).state ≡ t
   refused_stays w t r e = go (ends s w t)
     where
       go : Ends s w t → (execute_of s w t).state ≡ t
@@ -32,7 +31,7 @@ module _ (s : Settings) where
       go (stays q f g) = g
 
   -- what a word makes of a run of the words after it
-  step : Executed → ℕ → List ℕ → State → Ran
+  step : Result ⊤ Refusal → ℕ → List ℕ → State → Ran
   step a w ws t = if_done a (record { words = 0; ending = execute_of s w t }) (one_more (run_of s ws (execute_of s w t).state))
 
   -- ---- what a run keeps
@@ -42,19 +41,19 @@ module _ (s : Settings) where
   run_keeps [] t = keeps_refl t
   run_keeps (w ∷ ws) t = go (execute_of s w t).answer (run_keeps ws (execute_of s w t).state)
     where
-      go : (a : Executed) → Keeps (execute_of s w t).state (run_of s ws (execute_of s w t).state).ending.state → Keeps t (step a w ws t).ending.state
-      go Done ih = keeps_trans t (execute_of s w t).state _ (execution_keeps s w t) ih
-      go (Refused r) ih = execution_keeps s w t
+      go : (a : Result ⊤ Refusal) → Keeps (execute_of s w t).state (run_of s ws (execute_of s w t).state).ending.state → Keeps t (step a w ws t).ending.state
+      go (Ok _) ih = keeps_trans t (execute_of s w t).state _ (execution_keeps s w t) ih
+      go (Err r) ih = execution_keeps s w t
 
   -- a run that is done has done all its words
-  pub run_all : (ws : List ℕ) (t : State) → (run_of s ws t).ending.answer ≡ Done → (run_of s ws t).words ≡ length ws
+  pub run_all : (ws : List ℕ) (t : State) → (run_of s ws t).ending.answer ≡ Ok tt → (run_of s ws t).words ≡ length ws
   unfolding run_of step
   run_all [] t e = refl
   run_all (w ∷ ws) t e = go (execute_of s w t).answer refl e (run_all ws (execute_of s w t).state)
     where
-      go : (a : Executed) → a ≡ (execute_of s w t).answer → (step a w ws t).ending.answer ≡ Done → ((run_of s ws (execute_of s w t).state).ending.answer ≡ Done → (run_of s ws (execute_of s w t).state).words ≡ length ws) → (step a w ws t).words ≡ suc (length ws)
-      go Done q e ih = ap suc (ih e)
-      go (Refused r) q e ih = absurd (refused_not_done r (q ∙ e))
+      go : (a : Result ⊤ Refusal) → a ≡ (execute_of s w t).answer → (step a w ws t).ending.answer ≡ Ok tt → ((run_of s ws (execute_of s w t).state).ending.answer ≡ Ok tt → (run_of s ws (execute_of s w t).state).words ≡ length ws) → (step a w ws t).words ≡ suc (length ws)
+      go (Ok _) q e ih = ap suc (ih e)
+      go (Err r) q e ih = absurd (refused_not_done r (q ∙ e))
 
   -- ---- a run stops as it should
 
@@ -63,9 +62,9 @@ module _ (s : Settings) where
   run_stops [] t = record { before = []; after = []; words = refl; count = refl; done = refl; stop = refl }
   run_stops (w ∷ ws) t = go (execute_of s w t).answer refl (run_stops ws (execute_of s w t).state)
     where
-      go : (a : Executed) → (execute_of s w t).answer ≡ a → Stops s ws (execute_of s w t).state (ended (run_of s ws (execute_of s w t).state)).run (ended (run_of s ws (execute_of s w t).state)).state →
+      go : (a : Result ⊤ Refusal) → (execute_of s w t).answer ≡ a → Stops s ws (execute_of s w t).state (ended (run_of s ws (execute_of s w t).state)).run (ended (run_of s ws (execute_of s w t).state)).state →
           Stops s (w ∷ ws) t (ended (step a w ws t)).run (ended (step a w ws t)).state
-      go Done e ih =
+      go (Ok _) e ih =
           record {
             before = w ∷ ih.before;
             after = ih.after;
@@ -74,7 +73,7 @@ module _ (s : Settings) where
             done = (e, ih.done);
             stop = ih.stop;
           }
-      go (Refused r) e ih =
+      go (Err r) e ih =
           record {
             before = [];
             after = w ∷ ws;
@@ -94,7 +93,7 @@ module _ (s : Settings) where
       none : (r : Ran) → r.words ≡ 0 + r.words
       none r = omega arith
   all_done (w ∷ before) after t t' h =
-      ap (λ (a : Executed). step a w (before ++ after) t) h.0 ∙
+      ap (λ (a : Result ⊤ Refusal). step a w (before ++ after) t) h.0 ∙
       ap one_more (all_done before after (execute_of s w t).state t' h.1) ∙
       (λ k. record { words = more k; ending = (run_of s after t').ending })
     where
@@ -109,7 +108,7 @@ module _ (s : Settings) where
       none : n ≡ n + 0
       none = omega arith
   stops_ends n (w ∷ ws) t r c e =
-      let stepped = ap (λ (a : Executed). words_on n (step a w ws t)) e.1 ∙ words_on-none n (execute_of s w t) in (
+      let stepped = ap (λ (a : Result ⊤ Refusal). words_on n (step a w ws t)) e.1 ∙ words_on-none n (execute_of s w t) in (
         λ k. record { words = (c ∙ ap (λ (q : Ran). q.words) (sym stepped)) k; answer = (e.2 ∙ ap Ended (sym e.1) ∙ ap (λ (q : Ran). Ended q.ending.answer) (sym stepped)) k },
         sym (refused_stays w t e.0 e.1) ∙ ap (λ (q : Ran). q.ending.state) (sym stepped),
       )

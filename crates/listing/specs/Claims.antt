@@ -1,13 +1,12 @@
 -- The theorems about listings, as statements; proofs/Claims.antt proves each. Request 5's own sentences, in words and lists of words: what a definition says by
 -- taking, cutting and iterating is said here by what was done and what was not.
 -- Assumes nothing.
-use Rattle.std.specs.Prelude.{ℕ, ◌+◌, ◌*◌, ◌/◌, ◌%◌, ◌<◌, ◌≤◌, min, ◌≡◌, true, false, List, [], ◌∷◌, ◌++◌, length, get_or, drop}
+use Rattle.std.specs.Prelude.{ℕ, ◌+◌, ◌*◌, ◌/◌, ◌%◌, ◌<◌, ◌≤◌, min, ◌≡◌, true, false, List, [], ◌∷◌, ◌++◌, length, get_or, drop, Ok, Err}
 use Rattle.general.specs.Determined.{Determined, Met, IsOneOf}
 use Rattle.settings.specs.Settings.{valid_settings}
 use Rattle.settings.specs.declared.Settings.{Settings}
 use Rattle.semantics.specs.declared.answer.Refusal.{Refusal}
 use Rattle.semantics.specs.declared.answer.Refusal.TheVariants.{BadSettings, BadLengths}
-use Rattle.semantics.specs.declared.answer.Executed.TheVariants.{Done, Refused}
 use Rattle.semantics.specs.State.{State}
 use Rattle.semantics.specs.Execute.{if_done, execute_of}
 use Rattle.semantics.specs.Claims.{Keeps}
@@ -43,12 +42,12 @@ AllowedAreFirst = (l : List ℕ) (n : ℕ) → AllowedAre l n
 -- words that are all done by single calls, each on the state that the one before left, from t to t'
 abbrev pub AllDone : Settings → List ℕ → State → State → Type 0
 AllDone s [] t t' = t' ≡ t
-AllDone s (w ∷ ws) t t' = ((execute_of s w t).answer ≡ Done) × AllDone s ws (execute_of s w t).state t'
+AllDone s (w ∷ ws) t t' = ((execute_of s w t).answer ≡ Ok tt) × AllDone s ws (execute_of s w t).state t'
 
 -- no words are left, or the first of those that are left is refused by a single call
 abbrev pub StopsAt : Settings → List ℕ → State → Listed → Type 0
-StopsAt s [] t a = a ≡ Ended Done
-StopsAt s (w ∷ ws) t a = (r : Refusal) × ((execute_of s w t).answer ≡ Refused r) × (a ≡ Ended (Refused r))
+StopsAt s [] t a = a ≡ Ended (Ok tt)
+StopsAt s (w ∷ ws) t a = (r : Refusal) × ((execute_of s w t).answer ≡ Err r) × (a ≡ Ended (Err r))
 
 -- Of the words that may run some are done, one after another, and counted; the state is the one that they left, so that the word that stops them changes nothing; and
 -- they stop at the end with 0, or at a word that is refused, with its answer.
@@ -64,8 +63,8 @@ pub record Stops (s : Settings) (ws : List ℕ) (t : State) (r : ListingRun) (t'
 
 -- Answers in order: 1, 2, 9, each with no word done and every buffer as it was, whatever the words and the allowance; then what the words give, and nothing else.
 pub record ListingDoes (s : Settings) (l : List ℕ) (n : ℕ) (t : State) : Type 0 where
-  pub settings : valid_settings s ≡ false → listing_of s l n t ≡ not_run (Ended (Refused BadSettings)) t
-  pub lengths : valid_settings s ≡ true → right_lengths s t ≡ false → listing_of s l n t ≡ not_run (Ended (Refused BadLengths)) t
+  pub settings : valid_settings s ≡ false → listing_of s l n t ≡ not_run (Ended (Err BadSettings)) t
+  pub lengths : valid_settings s ≡ true → right_lengths s t ≡ false → listing_of s l n t ≡ not_run (Ended (Err BadLengths)) t
   pub odd : valid_settings s ≡ true → right_lengths s t ≡ true → (length l % 4 ≡ 0 → ⊥) → listing_of s l n t ≡ not_run BadListing t
   pub words : valid_settings s ≡ true → right_lengths s t ≡ true → length l % 4 ≡ 0 → Stops s (allowed_in l n) t (listing_of s l n t).run (listing_of s l n t).state
   pub only : valid_settings s ≡ true → right_lengths s t ≡ true → length l % 4 ≡ 0 →
@@ -87,7 +86,7 @@ EarlyAnswersExactly = (s : Settings) (l : List ℕ) (n : ℕ) (t : State) → Ea
 pub record ListingBounded (s : Settings) (l : List ℕ) (n : ℕ) (t : State) : Type 0 where
   pub allowed : (listing_of s l n t).run.words ≤ n
   pub listed : (listing_of s l n t).run.words ≤ length l / 4
-  pub reached : (listing_of s l n t).run.answer ≡ Ended Done → (listing_of s l n t).run.words ≡ min n (length l / 4)
+  pub reached : (listing_of s l n t).run.answer ≡ Ended (Ok tt) → (listing_of s l n t).run.words ≡ min n (length l / 4)
   pub kept : Keeps t (listing_of s l n t).state
 
 abbrev pub ListingsBounded : Type 0
@@ -105,7 +104,7 @@ abbrev pub PartsAreWhole : Type 0
 PartsAreWhole =
     (s : Settings) (l : List ℕ) (a b : ℕ) (t : State) →
     let f = listing_of s l a t in
-    f.run.answer ≡ Ended Done →
+    f.run.answer ≡ Ended (Ok tt) →
     let g = listing_of s (drop (4 * f.run.words) l) b f.state in
     listing_of s l (a + b) t ≡ record { run = record { words = f.run.words + g.run.words; answer = g.run.answer }; state = g.state }
 

@@ -2,10 +2,9 @@
 -- To believe: `listing_of`. Settings and lengths come first, then the listing's length, then its words one after another as `run_of` runs them, which iterates
 -- the definition of execution; as many of them as the allowance says at most.
 -- Assumes nothing.
-use Rattle.std.specs.Prelude.{ℕ, ◌%◌, Bool, cond, List, eqb, length, take}
+use Rattle.std.specs.Prelude.{ℕ, ◌%◌, Bool, cond, List, eqb, length, take, Result, ⊤, Ok}
 use Rattle.settings.specs.declared.Settings.{Settings}
-use Rattle.semantics.specs.declared.answer.Executed.{Executed}
-use Rattle.semantics.specs.declared.answer.Executed.TheVariants.{Done}
+use Rattle.semantics.specs.declared.answer.Refusal.{Refusal}
 use Rattle.semantics.specs.State.{State}
 use Rattle.semantics.specs.Execute.{valid_lengths, buffers_answer, if_done}
 use Rattle.semantics.specs.Run.{Ran, run_of}
@@ -32,8 +31,8 @@ abbrev pub right_lengths : Settings → State → Bool
 right_lengths s t = valid_lengths s (length t.x) (length t.z) (length t.p) (length t.za) (length t.memory)
 
 -- settings and lengths of buffers, which no word is needed for: done, or answer 1 or 2
-abbrev pub buffers_checked : Settings → State → Executed
-buffers_checked s t = buffers_answer s (length t.x) (length t.z) (length t.p) (length t.za) (length t.memory) Done
+abbrev pub buffers_checked : Settings → State → Result ⊤ Refusal
+buffers_checked s t = buffers_answer s (length t.x) (length t.z) (length t.p) (length t.za) (length t.memory) (Ok tt)
 
 -- the length is a multiple of 4
 abbrev pub is_whole : List ℕ → Bool

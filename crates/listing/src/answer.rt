@@ -2,7 +2,7 @@
 ghost use Rattle.std.specs.Prelude.{◌≡◌};
 ghost use Rattle.listing.specs.Answer.{listed_number, listed_fault};
 
-use semantics::{Executed, Fault};
+use semantics::{Fault, Refusal, answer_number, fault_of};
 
 // How a listing ended.
 #[derive(Clone, Copy)]
@@ -11,7 +11,7 @@ pub enum Listed {
     BadListing,
     // As a word is answered: by the refusal of settings or lengths, before any word was run, or of a word; or done, at the
     // end or at the allowance.
-    Ended(Executed),
+    Ended(Result<(), Refusal>),
 }
 
 // How many words were done, and the answer.
@@ -28,7 +28,7 @@ impl Listed {
     {
         match self {
             Listed::BadListing => 9,
-            Listed::Ended(answer) => answer.number(),
+            Listed::Ended(answer) => answer_number(answer),
         }
     }
 
@@ -41,7 +41,7 @@ impl Listed {
                 address: 0,
                 element: 0,
             },
-            Listed::Ended(answer) => answer.fault(),
+            Listed::Ended(answer) => fault_of(answer),
         }
     }
 }

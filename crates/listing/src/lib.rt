@@ -11,7 +11,6 @@ ghost use Rattle.listing.specs.Promise.{RunsListing};
 ghost use Rattle.listing.specs.Steps.{EndsAs};
 
 use crate::word::word_at;
-use semantics::Executed;
 use settings::Settings;
 
 mod answer;
@@ -42,7 +41,7 @@ pub fn run(
         za.len(),
         memory.len(),
     );
-    let Executed::Done = checked else {
+    let Ok(()) = checked else {
         return ListingRun {
             words: 0,
             answer: Listed::Ended(checked),
@@ -87,7 +86,7 @@ fn perform_words(
     while i < n {
         let word = word_at(listing, i);
         let answer = execute::perform::perform(settings, word, x, z, p, za, memory);
-        let Executed::Done = answer else {
+        let Ok(()) = answer else {
             return ListingRun {
                 words: i as u64,
                 answer: Listed::Ended(answer),
@@ -97,6 +96,6 @@ fn perform_words(
     }
     ListingRun {
         words: n as u64,
-        answer: Listed::Ended(Executed::Done),
+        answer: Listed::Ended(Ok(())),
     }
 }

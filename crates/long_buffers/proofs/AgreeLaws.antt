@@ -1,5 +1,6 @@
 -- Two states that agree within B: what is active is the same in both, so is the answer, and each operation writes the same within B.
 -- Assumes nothing.
+use Rattle.std.specs.Prelude.{Result, ⊤}
 use Prim.Native.Nat.{ℕ, ◌*◌, ◌/◌, ◌%◌, ◌^◌, ◌<◌}
 use mathlib.Core.Path.{◌≡◌, refl, sym, ap, ◌∙◌}
 use mathlib.Core.Bool.{Bool, true, cond, ◌&&◌, not}
@@ -32,7 +33,7 @@ use Rattle.encoding.specs.declared.operation.Operation.{Operation}
 use Rattle.encoding.specs.declared.operation.Operation.TheVariants.{MovaToTile, MovazFromTile, MovaFromArray, MovazFromArray, St1, MovaFromTile, Ld1}
 use Rattle.encoding.specs.declared.operation.Decoded.{Decoded}
 use Rattle.encoding.specs.declared.operation.Decoded.TheVariants as decoded
-use Rattle.semantics.specs.declared.answer.Executed.{Executed}
+use Rattle.semantics.specs.declared.answer.Refusal.{Refusal}
 use Rattle.semantics.specs.declared.answer.Refusal.TheVariants.{StreamingOff, ZaOff, StackMisaligned}
 use Rattle.semantics.specs.State.{State, state_of, public_of}
 use Rattle.semantics.specs.Access.{base_of, address_of, in_memory}
@@ -82,7 +83,7 @@ module _ (s : Settings) (laid : valid_vectors s ≡ true) (x z z' p p' za za' me
   operation_same (Ld1 o) = access_same o
 
   pub word_same : (d : Decoded) → word_answer s x p (length memory) d ≡ word_answer s x p' (length memory) d
-  word_same (decoded.Done o) = ap (λ (a : Executed). guard s.streaming StreamingOff (guard s.za ZaOff a)) (operation_same o)
+  word_same (decoded.Done o) = ap (λ (a : Result ⊤ Refusal). guard s.streaming StreamingOff (guard s.za ZaOff a)) (operation_same o)
   word_same decoded.BadLevel = refl
   word_same decoded.Undecodable = refl
 

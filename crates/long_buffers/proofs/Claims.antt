@@ -1,5 +1,6 @@
 -- Each theorem of specs/Within.antt.
 -- Assumes nothing.
+use Rattle.std.specs.Prelude.{Result, ⊤, Ok, Err}
 use Prim.Native.Nat.{ℕ, suc, ◌+◌, ◌*◌, ◌/◌, ◌%◌, ◌<◌, ◌≤◌}
 use mathlib.Core.Path.{◌≡◌, refl, sym, ap, ◌∙◌, subst}
 use mathlib.Core.Bool.{true, false}
@@ -20,8 +21,7 @@ use Rattle.encoding.specs.Codec.{decode_of}
 use Rattle.encoding.specs.Range.{InRange}
 use Rattle.encoding.specs.declared.operation.Operation.{Operation}
 use Rattle.encoding.proofs.RangeLaws.{decoded_in_range}
-use Rattle.semantics.specs.declared.answer.Executed.{Executed}
-use Rattle.semantics.specs.declared.answer.Executed.TheVariants.{Done, Refused}
+use Rattle.semantics.specs.declared.answer.Refusal.{Refusal}
 use Rattle.semantics.specs.State.{State, state_of, public_of}
 use Rattle.semantics.specs.Effect.{effect_of}
 use Rattle.semantics.specs.Execute.{buffers_answer, word_answer, answer_of, if_done, execute_of}
@@ -91,10 +91,10 @@ unfolding run_of
 run_keeps_beyond s [] t = beyond_refl s t
 run_keeps_beyond s (w ∷ ws) t = go (execute_of s w t).answer (execution_keeps_beyond s w t) (run_keeps_beyond s ws (execute_of s w t).state)
   where
-    go : (a : Executed) → BeyondStays s t (execute_of s w t).state → BeyondStays s (execute_of s w t).state (run_of s ws (execute_of s w t).state).ending.state →
+    go : (a : Result ⊤ Refusal) → BeyondStays s t (execute_of s w t).state → BeyondStays s (execute_of s w t).state (run_of s ws (execute_of s w t).state).ending.state →
         BeyondStays s t (if_done a (record { words = 0; ending = execute_of s w t }) (one_more (run_of s ws (execute_of s w t).state))).ending.state
-    go Done f g = beyond_trans s t (execute_of s w t).state _ f g
-    go (Refused r) f g = f
+    go (Ok _) f g = beyond_trans s t (execute_of s w t).state _ f g
+    go (Err r) f g = f
 
 -- ---- and does not matter
 
@@ -104,11 +104,11 @@ module _ (s : Settings) (w : ℕ) where
   unfolding execute_of answer_of
   shared_same x z z' p p' za za' memory agree = go (by_test (valid_settings s))
     where
-      answer : List ℕ → List ℕ → List ℕ → Executed → Executed
+      answer : List ℕ → List ℕ → List ℕ → Result ⊤ Refusal → Result ⊤ Refusal
       answer z p za rest = buffers_answer s (length x) (length z) (length p) (length za) (length memory) rest
 
       -- the lengths are the same
-      lengths_same : (rest : Executed) → answer z p za rest ≡ answer z' p' za' rest
+      lengths_same : (rest : Result ⊤ Refusal) → answer z p za rest ≡ answer z' p' za' rest
       lengths_same rest =
           ap (λ (n : ℕ). buffers_answer s (length x) n (length p) (length za) (length memory) rest) agree.z_long ∙
           ap (λ (n : ℕ). buffers_answer s (length x) (length z') n (length za) (length memory) rest) agree.p_long ∙
@@ -152,15 +152,15 @@ runs_go_by_within s (w ∷ ws) t u agree =
     let h = executions_go_by_within s w t u agree in
     go (execute_of s w t).answer (execute_of s w u).answer refl refl h.answer h.state (runs_go_by_within s ws (execute_of s w t).state (execute_of s w u).state h.state)
   where
-    step : Executed → State → Ran
+    step : Result ⊤ Refusal → State → Ran
     step a t = if_done a (record { words = 0; ending = execute_of s w t }) (one_more (run_of s ws (execute_of s w t).state))
 
-    go : (a b : Executed) → (execute_of s w t).answer ≡ a → (execute_of s w u).answer ≡ b → (execute_of s w t).answer ≡ (execute_of s w u).answer → AgreeWithin s (execute_of s w t).state (execute_of s w u).state →
+    go : (a b : Result ⊤ Refusal) → (execute_of s w t).answer ≡ a → (execute_of s w u).answer ≡ b → (execute_of s w t).answer ≡ (execute_of s w u).answer → AgreeWithin s (execute_of s w t).state (execute_of s w u).state →
         RunGoesByWithin s (run_of s ws (execute_of s w t).state) (run_of s ws (execute_of s w u).state) → RunGoesByWithin s (step a t) (step b u)
-    go Done Done e e' same f g = record { words = ap suc g.words; answer = g.answer; state = g.state }
-    go (Refused r) (Refused r') e e' same f g = record { words = refl; answer = same; state = f }
-    go Done (Refused r) e e' same f g = absurd (refused_not_done r (sym e' ∙ sym same ∙ e))
-    go (Refused r) Done e e' same f g = absurd (refused_not_done r (sym e ∙ same ∙ e'))
+    go (Ok _) (Ok _) e e' same f g = record { words = ap suc g.words; answer = g.answer; state = g.state }
+    go (Err r) (Err r') e e' same f g = record { words = refl; answer = same; state = f }
+    go (Ok _) (Err r) e e' same f g = absurd (refused_not_done r (sym e' ∙ sym same ∙ e))
+    go (Err r) (Ok _) e e' same f g = absurd (refused_not_done r (sym e ∙ same ∙ e'))
 
 -- ---- no byte is neither
 

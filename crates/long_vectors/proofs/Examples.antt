@@ -1,5 +1,6 @@
 -- The worked examples, computed.
 -- Assumes nothing.
+use Rattle.std.specs.Prelude.{Ok}
 use Prim.Native.Nat.{ℕ, ◌*◌}
 use mathlib.Core.Path.{◌≡◌, refl}
 use lib.ListN.{replicate}
@@ -15,7 +16,6 @@ use Rattle.encoding.specs.Codec.{row_of_word, decode_of}
 use Rattle.encoding.specs.declared.operation.RegisterCount.TheVariants.{Four}
 use Rattle.encoding.specs.declared.operation.ArrayToVectors.{ArrayToVectors}
 use Rattle.encoding.specs.declared.operation.Operation.TheVariants.{MovaFromArray, MovazFromArray}
-use Rattle.semantics.specs.declared.answer.Executed.TheVariants.{Done}
 use Rattle.semantics.specs.State.{State}
 use Rattle.semantics.specs.Effect.{writes_of, values_of, effect_of}
 use Rattle.semantics.specs.Execute.{access_answer, answer_of, execute_of}
@@ -41,11 +41,11 @@ before B x = state_at B 8 (x_with 11 x) (replicate (2 * B) 0)
 abbrev four : ArrayToVectors
 four = record { registers = Four; rv = 11; off = 6; zd = 12 }
 
-taken : (B x : ℕ) → (execute_of (settings_at B 0) 0xC0066CCC (before B x)).answer ≡ Done → FromArray (settings_at B 0) (before B x) (execute_of (settings_at B 0) 0xC0066CCC (before B x)).state four
+taken : (B x : ℕ) → (execute_of (settings_at B 0) 0xC0066CCC (before B x)).answer ≡ Ok tt → FromArray (settings_at B 0) (before B x) (execute_of (settings_at B 0) 0xC0066CCC (before B x)).state four
 unfolding table row_of_word decode_of
 taken B x e = operations_mean (settings_at B 0) 0xC0066CCC (before B x) (MovaFromArray four) (refl, e)
 
-zeroed : (B x : ℕ) → (execute_of (settings_at B 0) 0xC0066ECC (before B x)).answer ≡ Done → FromArrayZeroing (settings_at B 0) (before B x) (execute_of (settings_at B 0) 0xC0066ECC (before B x)).state four
+zeroed : (B x : ℕ) → (execute_of (settings_at B 0) 0xC0066ECC (before B x)).answer ≡ Ok tt → FromArrayZeroing (settings_at B 0) (before B x) (execute_of (settings_at B 0) 0xC0066ECC (before B x)).state four
 unfolding table row_of_word decode_of
 zeroed B x e = operations_mean (settings_at B 0) 0xC0066ECC (before B x) (MovazFromArray four) (refl, e)
 

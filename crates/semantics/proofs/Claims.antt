@@ -1,5 +1,6 @@
 -- Each theorem of specs/Claims.antt.
 -- Assumes nothing.
+use Rattle.std.specs.Prelude.{Result, ⊤, Ok, Err}
 use Prim.Native.Nat.{ℕ, ◌+◌}
 use mathlib.Core.Path.{◌≡◌, refl, sym, ap, ◌∙◌, subst}
 use mathlib.Core.Bool.{Bool, true, false, true≢false}
@@ -9,8 +10,6 @@ use Rattle.general.specs.Determined.{IsOneOf}
 use Rattle.settings.specs.Settings.{with_stack_check}
 use Rattle.settings.specs.declared.Settings.{Settings}
 use Rattle.semantics.specs.declared.answer.Refusal.{Refusal}
-use Rattle.semantics.specs.declared.answer.Executed.{Executed}
-use Rattle.semantics.specs.declared.answer.Executed.TheVariants.{Done, Refused}
 use Rattle.semantics.specs.State.{State, public_of}
 use Rattle.semantics.specs.Execute.{Outcome, if_done, execute_of}
 use Rattle.semantics.specs.Run.{Ran, one_more, run_of}
@@ -49,7 +48,7 @@ definition_executes s w t = record { answer = refl; numbers = answers_agree s w 
 pub executing_determines : ExecutingDetermines
 executing_determines s w t = record {
   met = (((execute_of s w t).answer, (execute_of s w t).state), definition_executes s w t);
-  determined = equal_determines (λ (o : Executed × State). Executes s w t o.0 o.1) ((execute_of s w t).answer, (execute_of s w t).state) (λ o p i. (p.answer i, p.state i));
+  determined = equal_determines (λ (o : Result ⊤ Refusal × State). Executes s w t o.0 o.1) ((execute_of s w t).answer, (execute_of s w t).state) (λ o p i. (p.answer i, p.state i));
   refused = λ r t' p n. p.state ∙ refusal_keeps s w t (λ e. n (ap executed_number p.answer ∙ e));
 }
 
@@ -75,7 +74,7 @@ unchecked s w t e n = true≢false (sym ((given_exactly s w t).reason 5 (omega a
 pub stack_check_switched : StackCheckSwitched
 stack_check_switched s w t = record { off = unchecked s w t; same = same (answer_switched s w t); ordinary = ordinary (answer_switched s w t) }
   where
-    a : Bool → Executed
+    a : Bool → Result ⊤ Refusal
     a b = (execute_of (with_stack_check s b) w t).answer
 
     same : Switched (a false) (a true) → (executed_number (a true) ≡ 6 → ⊥) → execute_of (with_stack_check s false) w t ≡ execute_of (with_stack_check s true) w t
@@ -89,7 +88,7 @@ stack_check_switched s w t = record { off = unchecked s w t; same = same (answer
 -- ---- runs, word by word
 
 -- what a word makes of a run of the words after it
-abbrev step : Executed → Outcome → Ran → Ran
+abbrev step : Result ⊤ Refusal → Outcome → Ran → Ran
 step a o r = if_done a (record { words = 0; ending = o }) (one_more r)
 
 module _ (s : Settings) where
@@ -97,22 +96,22 @@ module _ (s : Settings) where
   unfolding run_of
   run_one t w = go (execute_of s w t).answer (execute_of s w t).state
     where
-      go : (a : Executed) (t' : State) → (step a (record { answer = a; state = t' }) (record { words = 0; ending = record { answer = Done; state = t' } })).ending ≡ record { answer = a; state = t' }
-      go Done t' = refl
-      go (Refused r) t' = refl
+      go : (a : Result ⊤ Refusal) (t' : State) → (step a (record { answer = a; state = t' }) (record { words = 0; ending = record { answer = Ok tt; state = t' } })).ending ≡ record { answer = a; state = t' }
+      go (Ok _) t' = refl
+      go (Err r) t' = refl
 
   run_counted : (t : State) (w : ℕ) → (run_of s (w ∷ []) t).words ≡ if_done (execute_of s w t).answer 0 1
   unfolding run_of
   run_counted t w = go (execute_of s w t).answer (execute_of s w t)
     where
-      go : (a : Executed) (o : Outcome) → (step a o (record { words = 0; ending = record { answer = Done; state = o.state } })).words ≡ if_done a 0 1
-      go Done o = refl
-      go (Refused r) o = refl
+      go : (a : Result ⊤ Refusal) (o : Outcome) → (step a o (record { words = 0; ending = record { answer = Ok tt; state = o.state } })).words ≡ if_done a 0 1
+      go (Ok _) o = refl
+      go (Err r) o = refl
 
   -- what is claimed where words go on
   abbrev GoesOn : List ℕ → List ℕ → State → Type 0
   GoesOn ws vs t =
-      (run_of s ws t).ending.answer ≡ Done →
+      (run_of s ws t).ending.answer ≡ Ok tt →
       ((run_of s (ws ++ vs) t).ending ≡ (run_of s vs (run_of s ws t).ending.state).ending) ×
       ((run_of s (ws ++ vs) t).words ≡ (run_of s ws t).words + (run_of s vs (run_of s ws t).ending.state).words)
 
@@ -121,21 +120,21 @@ module _ (s : Settings) where
   run_more [] vs t e = (refl, omega arith)
   run_more (w ∷ ws) vs t e = go (execute_of s w t).answer refl e (run_more ws vs (execute_of s w t).state)
     where
-      go : (a : Executed) → a ≡ (execute_of s w t).answer → (step a (execute_of s w t) (run_of s ws (execute_of s w t).state)).ending.answer ≡ Done → GoesOn ws vs (execute_of s w t).state →
+      go : (a : Result ⊤ Refusal) → a ≡ (execute_of s w t).answer → (step a (execute_of s w t) (run_of s ws (execute_of s w t).state)).ending.answer ≡ Ok tt → GoesOn ws vs (execute_of s w t).state →
           ((step a (execute_of s w t) (run_of s (ws ++ vs) (execute_of s w t).state)).ending ≡ (run_of s vs (step a (execute_of s w t) (run_of s ws (execute_of s w t).state)).ending.state).ending) ×
           ((step a (execute_of s w t) (run_of s (ws ++ vs) (execute_of s w t).state)).words ≡ (step a (execute_of s w t) (run_of s ws (execute_of s w t).state)).words + (run_of s vs (step a (execute_of s w t) (run_of s ws (execute_of s w t).state)).ending.state).words)
-      go Done q e ih = let h = ih e in (h.0, omega (arith, h.1))
-      go (Refused r) q e ih = absurd (refused_not_done r (q ∙ e))
+      go (Ok _) q e ih = let h = ih e in (h.0, omega (arith, h.1))
+      go (Err r) q e ih = absurd (refused_not_done r (q ∙ e))
 
-  run_stops : (ws vs : List ℕ) (t : State) (r : Refusal) → (run_of s ws t).ending.answer ≡ Refused r → run_of s (ws ++ vs) t ≡ run_of s ws t
+  run_stops : (ws vs : List ℕ) (t : State) (r : Refusal) → (run_of s ws t).ending.answer ≡ Err r → run_of s (ws ++ vs) t ≡ run_of s ws t
   unfolding run_of
   run_stops [] vs t r e = absurd (refused_not_done r (sym e))
   run_stops (w ∷ ws) vs t r e = go (execute_of s w t).answer e (run_stops ws vs (execute_of s w t).state r)
     where
-      go : (a : Executed) → (step a (execute_of s w t) (run_of s ws (execute_of s w t).state)).ending.answer ≡ Refused r → ((run_of s ws (execute_of s w t).state).ending.answer ≡ Refused r → run_of s (ws ++ vs) (execute_of s w t).state ≡ run_of s ws (execute_of s w t).state) →
+      go : (a : Result ⊤ Refusal) → (step a (execute_of s w t) (run_of s ws (execute_of s w t).state)).ending.answer ≡ Err r → ((run_of s ws (execute_of s w t).state).ending.answer ≡ Err r → run_of s (ws ++ vs) (execute_of s w t).state ≡ run_of s ws (execute_of s w t).state) →
           step a (execute_of s w t) (run_of s (ws ++ vs) (execute_of s w t).state) ≡ step a (execute_of s w t) (run_of s ws (execute_of s w t).state)
-      go Done e ih = ap one_more (ih e)
-      go (Refused r') e ih = refl
+      go (Ok _) e ih = ap one_more (ih e)
+      go (Err r') e ih = refl
 
 pub run_goes_on : RunGoesOn
 run_goes_on s t = record { one = run_one s t; counted = run_counted s t; more = λ ws vs. run_more s ws vs t; stops = λ ws vs. run_stops s ws vs t }

@@ -1,8 +1,9 @@
 -- Laws of specs/Execute.antt and specs/Lines.antt: what a done answer says, that a refusal changes nothing, and that both definitions of the answer agree.
 -- Assumes nothing.
+use Rattle.std.specs.Prelude.{Result, ⊤, Ok, Err, is_ok}
 use Prim.Native.Nat.{ℕ, ◌+◌, ◌^◌, ◌≤◌}
 use mathlib.Core.Path.{◌≡◌, refl, sym, ap, ◌∙◌, subst}
-use mathlib.Core.Bool.{Bool, true, false, cond, ◌&&◌, not, and-eq-true_iff}
+use mathlib.Core.Bool.{Bool, true, false, cond, ◌&&◌, not, and-eq-true_iff, true≢false}
 use mathlib.Core.List.{[]}
 use mathlib.Core.Option.{Option, none, some}
 use native.Mathlib.Omega.{arith}
@@ -21,8 +22,6 @@ use Rattle.encoding.specs.declared.operation.Decoded.{Decoded}
 use Rattle.encoding.specs.declared.operation.Decoded.TheVariants as decoded
 use Rattle.semantics.specs.declared.answer.Refusal.{Refusal}
 use Rattle.semantics.specs.declared.answer.Refusal.TheVariants.{BadSettings, BadLengths, StreamingOff, ZaOff, StackMisaligned}
-use Rattle.semantics.specs.declared.answer.Executed.{Executed}
-use Rattle.semantics.specs.declared.answer.Executed.TheVariants.{Done, Refused}
 use Rattle.semantics.specs.Answer.{refusal_answer, executed_answer}
 use Rattle.semantics.specs.State.{State, Public, public_of}
 use Rattle.semantics.specs.Effect.{effect_of}
@@ -33,11 +32,11 @@ use Rattle.semantics.specs.Steps.{Sized}
 -- ---- guard
 
 -- a refusal is not done
-pub refused_not_done : (r : Refusal) → Refused r ≡ Done → ⊥
-refused_not_done r e = let z : ◌≡◌ {A = ℕ} 0 1 = cc in omega arith
+pub refused_not_done : (r : Refusal) → ◌≡◌ {A = Result ⊤ Refusal} (Err r) (Ok tt) → ⊥
+refused_not_done r e = true≢false (sym (ap is_ok e))
 
 -- what is done has passed the check
-pub guard_done : (b : Bool) (r : Refusal) (rest : Executed) → guard b r rest ≡ Done → (b ≡ true) × (rest ≡ Done)
+pub guard_done : (b : Bool) (r : Refusal) (rest : Result ⊤ Refusal) → guard b r rest ≡ Ok tt → (b ≡ true) × (rest ≡ Ok tt)
 guard_done true r rest e = (refl, e)
 guard_done false r rest e = absurd (refused_not_done r e)
 
@@ -72,21 +71,21 @@ module _ (s : Settings) (lx lz lp lza lm : ℕ) where
   sized_lengths h = rw (eq-eqb _ _ h.x, eq-eqb _ _ h.z, eq-eqb _ _ h.p, eq-eqb _ _ h.za) (le-leb _ _ h.memory)
 
   -- with the right lengths the rest decides
-  pub buffers_rest : (rest : Executed) → Sized s lx lz lp lza lm → buffers_answer s lx lz lp lza lm rest ≡ rest
+  pub buffers_rest : (rest : Result ⊤ Refusal) → Sized s lx lz lp lza lm → buffers_answer s lx lz lp lza lm rest ≡ rest
   buffers_rest rest h = rw (sized_settings h, sized_lengths h)
 
   -- what is done has them
-  pub buffers_done : (rest : Executed) → buffers_answer s lx lz lp lza lm rest ≡ Done → Sized s lx lz lp lza lm × (rest ≡ Done)
+  pub buffers_done : (rest : Result ⊤ Refusal) → buffers_answer s lx lz lp lza lm rest ≡ Ok tt → Sized s lx lz lp lza lm × (rest ≡ Ok tt)
   buffers_done rest e =
       let v = guard_done (valid_settings s) _ _ e in
       let l = guard_done (valid_lengths s lx lz lp lza lm) _ _ v.1 in
       (valid_sized v.0 l.0, l.1)
 
   -- a refusal comes from settings and lengths whatever the rest
-  pub buffers_refused : (rest : Executed) (r : Refusal) → buffers_answer s lx lz lp lza lm Done ≡ Refused r → buffers_answer s lx lz lp lza lm rest ≡ Refused r
+  pub buffers_refused : (rest : Result ⊤ Refusal) (r : Refusal) → buffers_answer s lx lz lp lza lm (Ok tt) ≡ Err r → buffers_answer s lx lz lp lza lm rest ≡ Err r
   buffers_refused rest r e = go (valid_settings s) (valid_lengths s lx lz lp lza lm) e
     where
-      go : (a b : Bool) → guard a BadSettings (guard b BadLengths Done) ≡ Refused r → guard a BadSettings (guard b BadLengths rest) ≡ Refused r
+      go : (a b : Bool) → guard a BadSettings (guard b BadLengths (Ok tt)) ≡ Err r → guard a BadSettings (guard b BadLengths rest) ≡ Err r
       go false b e = e
       go true false e = e
       go true true e = absurd (refused_not_done r (sym e))
@@ -94,7 +93,7 @@ module _ (s : Settings) (lx lz lp lza lm : ℕ) where
 -- ---- the answer in numbers
 
 -- a check is a line that applies where it fails
-guard_line : (b : Bool) (r : Refusal) (rest : Executed) (a : Answer) → executed_answer rest ≡ a → executed_answer (guard b r rest) ≡ cond (not b) (refusal_answer r) a
+guard_line : (b : Bool) (r : Refusal) (rest : Result ⊤ Refusal) (a : Answer) → executed_answer rest ≡ a → executed_answer (guard b r rest) ≡ cond (not b) (refusal_answer r) a
 guard_line true r rest a e = e
 guard_line false r rest a e = refl
 
@@ -139,7 +138,7 @@ SizedAt s t = Sized s (length t.x) (length t.z) (length t.p) (length t.za) (leng
 module _ (s : Settings) (w : ℕ) (t : State) where
   -- what a done execution of an operation is
   pub record Does (o : Operation) : Type 0 where
-    pub answer : (execute_of s w t).answer ≡ Done
+    pub answer : (execute_of s w t).answer ≡ Ok tt
     pub sized : SizedAt s t
     pub decoded : decode_of w s.level ≡ decoded.Done o
     pub state : (execute_of s w t).state ≡ effect_of s o t
@@ -147,10 +146,10 @@ module _ (s : Settings) (w : ℕ) (t : State) where
   -- an execution is done, with an operation, or leaves the state as it was
   pub data Ends : Type 0 where
     does : (o : Operation) → Does o → Ends
-    stays : (r : Refusal) → (execute_of s w t).answer ≡ Refused r → (execute_of s w t).state ≡ t → Ends
+    stays : (r : Refusal) → (execute_of s w t).answer ≡ Err r → (execute_of s w t).state ≡ t → Ends
 
   -- a done answer comes from a decoded operation
-  operation_done : (d : Decoded) → word_answer s t.x t.p (length t.memory) d ≡ Done → (o : Operation) × (d ≡ decoded.Done o)
+  operation_done : (d : Decoded) → word_answer s t.x t.p (length t.memory) d ≡ Ok tt → (o : Operation) × (d ≡ decoded.Done o)
   operation_done (decoded.Done o) e = (o, refl)
   operation_done decoded.BadLevel e = absurd (refused_not_done _ e)
   operation_done decoded.Undecodable e = absurd (refused_not_done _ e)
@@ -159,8 +158,8 @@ module _ (s : Settings) (w : ℕ) (t : State) where
   unfolding execute_of answer_of
   ends = go (answer_of s w (public_of t)) refl
     where
-      go : (a : Executed) → answer_of s w (public_of t) ≡ a → Ends
-      go Done e =
+      go : (a : Result ⊤ Refusal) → answer_of s w (public_of t) ≡ a → Ends
+      go (Ok _) e =
           let b = buffers_done s _ _ _ _ _ _ e in
           let o = operation_done (decode_of w s.level) b.1 in
           does o.0
@@ -169,10 +168,10 @@ module _ (s : Settings) (w : ℕ) (t : State) where
             sized = b.0;
             decoded = o.1;
             state =
-                ap (λ (a : Executed). if_done a t (word_effect s (decode_of w s.level) t)) e ∙
+                ap (λ (a : Result ⊤ Refusal). if_done a t (word_effect s (decode_of w s.level) t)) e ∙
                 ap (λ (d : Decoded). word_effect s d t) o.1;
           })
-      go (Refused r) e = stays r e (ap (λ (a : Executed). if_done a t (word_effect s (decode_of w s.level) t)) e)
+      go (Err r) e = stays r e (ap (λ (a : Result ⊤ Refusal). if_done a t (word_effect s (decode_of w s.level) t)) e)
 
   -- with the right lengths the word decides
   pub sized_answer : SizedAt s t → (execute_of s w t).answer ≡ word_answer s t.x t.p (length t.memory) (decode_of w s.level)
@@ -189,7 +188,7 @@ module _ (s : Settings) (w : ℕ) (t : State) where
       ap (λ (b : Bool). guard b ZaOff rest) za
 
   -- a done execution of a word that decodes to an operation is done with that operation
-  pub does_operation : (o : Operation) → decode_of w s.level ≡ decoded.Done o → (execute_of s w t).answer ≡ Done → Does o
+  pub does_operation : (o : Operation) → decode_of w s.level ≡ decoded.Done o → (execute_of s w t).answer ≡ Ok tt → Does o
   does_operation o d e = go ends
     where
       -- the operation of a decoded word; o where there is none
@@ -203,7 +202,7 @@ module _ (s : Settings) (w : ℕ) (t : State) where
       go (stays r n q) = absurd (refused_not_done r (sym n ∙ e))
 
   -- and the operation is not refused
-  pub does_answer : (o : Operation) → Does o → operation_answer s t.x t.p (length t.memory) o ≡ Done
+  pub does_answer : (o : Operation) → Does o → operation_answer s t.x t.p (length t.memory) o ≡ Ok tt
   does_answer o h =
       (guard_done s.za _ _
       (guard_done s.streaming _ _ (sym (ap (word_answer s t.x t.p (length t.memory)) h.decoded) ∙ (sym (sized_answer h.sized) ∙ h.answer))).1).1

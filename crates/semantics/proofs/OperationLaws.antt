@@ -1,5 +1,6 @@
 -- The effect of each operation in the words of specs/Operations.antt: what it leaves at each byte of a slice, of a register, of a group, and beside them.
 -- Assumes nothing.
+use Rattle.std.specs.Prelude.{Ok}
 use Prim.Native.Nat.{ℕ, suc, ◌+◌, ◌*◌, ◌/◌, ◌%◌, ◌^◌, ◌<◌, ◌≤◌}
 use mathlib.Core.Path.{◌≡◌, refl, sym, ap, ◌∙◌}
 use mathlib.Core.Bool.{Bool, true, false, cond, ◌&&◌, not, true≢false}
@@ -43,7 +44,6 @@ use Rattle.encoding.specs.declared.operation.SliceAccess.{SliceAccess}
 use Rattle.encoding.specs.declared.operation.ArrayToVectors.{ArrayToVectors}
 use Rattle.encoding.specs.declared.operation.RegisterCount.{RegisterCount}
 use Rattle.encoding.specs.declared.operation.RegisterCount.TheVariants.{Two, Four}
-use Rattle.semantics.specs.declared.answer.Executed.TheVariants.{Done}
 use Rattle.semantics.specs.State.{State}
 use Rattle.semantics.specs.Access.{base_of, offset_of, address_of, in_memory}
 use Rattle.semantics.specs.Effect.{slice_byte, group_in, group_byte, memory_byte, active_under, registers_byte, writes_of, slice_value, group_value, register_value, loaded_value, values_of, effect_of}
@@ -206,15 +206,15 @@ and_not a true e h = refl
 and_not true false e h = absurd (true≢false e)
 and_not false false e h = absurd (true≢false (sym h))
 
-fault_none : (s : Settings) (x p : List ℕ) (lm : ℕ) (o : SliceAccess) → access_answer s x p lm o ≡ Done → fault_of s x p lm o ≡ none
+fault_none : (s : Settings) (x p : List ℕ) (lm : ℕ) (o : SliceAccess) → access_answer s x p lm o ≡ Ok tt → fault_of s x p lm o ≡ none
 unfolding access_answer
 fault_none s x p lm o e = go (fault_of s x p lm o) (guard_done (not (stack_bad s x p lm o)) _ _ e).1
   where
-    go : (f : Option ℕ) → fault_answer s x p lm o f ≡ Done → f ≡ none
+    go : (f : Option ℕ) → fault_answer s x p lm o f ≡ Ok tt → f ≡ none
     go none e = refl
     go (some k) e = absurd (refused_not_done _ e)
 
-access_fits : (s : Settings) (t : State) (o : SliceAccess) → SizedAt s t → AccessInRange o → access_answer s t.x t.p (length t.memory) o ≡ Done → AccessFits s t o
+access_fits : (s : Settings) (t : State) (o : SliceAccess) → SizedAt s t → AccessInRange o → access_answer s t.x t.p (length t.memory) o ≡ Ok tt → AccessFits s t o
 access_fits s t o h r e =
     record {
       slice = slice_fits s t o.slice h r.slice;
@@ -380,7 +380,7 @@ module _ (s : Settings) (t : State) (h : SizedAt s t) where
       }
 
   -- an operation in range that is not refused
-  pub effect_means : (o : Operation) → InRange o → operation_answer s t.x t.p (length t.memory) o ≡ Done → Means s t (effect_of s o t) o
+  pub effect_means : (o : Operation) → InRange o → operation_answer s t.x t.p (length t.memory) o ≡ Ok tt → Means s t (effect_of s o t) o
   effect_means (MovaToTile o) r e = to_tile_lem o r
   effect_means (MovazFromTile o) r e = from_tile_zeroing o r
   effect_means (MovaFromArray o) r e = from_array o r

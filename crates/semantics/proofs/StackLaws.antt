@@ -1,5 +1,6 @@
 -- What the switch of the stack check changes (specs/Claims.antt, `StackCheckSwitched`).
 -- Assumes nothing.
+use Rattle.std.specs.Prelude.{Result, ⊤, Err}
 use Prim.Native.Nat.{ℕ}
 use mathlib.Core.Path.{◌≡◌, refl}
 use mathlib.Core.Bool.{Bool, true, false, ◌&&◌, not}
@@ -18,20 +19,18 @@ use Rattle.encoding.specs.declared.operation.Decoded.{Decoded}
 use Rattle.encoding.specs.declared.operation.Decoded.TheVariants as decoded
 use Rattle.semantics.specs.declared.answer.Refusal.{Refusal}
 use Rattle.semantics.specs.declared.answer.Refusal.TheVariants.{BadSettings, BadLengths, StreamingOff, ZaOff, StackMisaligned}
-use Rattle.semantics.specs.declared.answer.Executed.{Executed}
-use Rattle.semantics.specs.declared.answer.Executed.TheVariants.{Refused}
 use Rattle.semantics.specs.Answer.{executed_number}
 use Rattle.semantics.specs.State.{State}
 use Rattle.semantics.specs.Effect.{writes_of, values_of, effect_of}
 use Rattle.semantics.specs.Execute.{guard, valid_lengths, fault_answer, fault_of, misaligned, access_answer, operation_answer, word_answer, answer_of, word_effect, if_done, execute_of}
 
 -- two answers, with the check off and with it on: they are the same; or with it on the answer is 6, and with it off 0 or 7
-pub data Switched (off on : Executed) : Type 0 where
+pub data Switched (off on : Result ⊤ Refusal) : Type 0 where
   alike : off ≡ on → Switched off on
-  apart : on ≡ Refused StackMisaligned → IsOneOf (0 ∷ 7 ∷ []) (executed_number off) → Switched off on
+  apart : on ≡ Err StackMisaligned → IsOneOf (0 ∷ 7 ∷ []) (executed_number off) → Switched off on
 
 -- an earlier check does not go by the switch
-guarded : (b : Bool) (r : Refusal) (off on : Executed) → Switched off on → Switched (guard b r off) (guard b r on)
+guarded : (b : Bool) (r : Refusal) (off on : Result ⊤ Refusal) → Switched off on → Switched (guard b r off) (guard b r on)
 guarded true r off on h = h
 guarded false r off on h = alike refl
 
@@ -43,7 +42,7 @@ module _ (s : Settings) (w : ℕ) (t : State) where
   on = with_stack_check s true
 
   -- whatever the rest of the check says
-  checked : (b : Bool) (rest : Executed) → IsOneOf (0 ∷ 7 ∷ []) (executed_number rest) → Switched (guard (not (b && false)) StackMisaligned rest) (guard (not (b && true)) StackMisaligned rest)
+  checked : (b : Bool) (rest : Result ⊤ Refusal) → IsOneOf (0 ∷ 7 ∷ []) (executed_number rest) → Switched (guard (not (b && false)) StackMisaligned rest) (guard (not (b && true)) StackMisaligned rest)
   checked true rest h = apart refl h
   checked false rest h = alike refl
 

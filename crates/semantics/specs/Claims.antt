@@ -1,6 +1,6 @@
 -- The theorems about execution and runs, as statements; proofs/Claims.antt proves each.
 -- Assumes nothing.
-use Rattle.std.specs.Prelude.{ℕ, ◌+◌, ◌<◌, ◌≡◌, true, false, List, [], ◌∷◌, ◌++◌, length, get_or}
+use Rattle.std.specs.Prelude.{ℕ, ◌+◌, ◌<◌, ◌≡◌, true, false, List, [], ◌∷◌, ◌++◌, length, get_or, Result, ⊤, Ok, Err}
 use Rattle.general.specs.Places.{Places}
 use Rattle.general.specs.Determined.{Determined, Met, IsOneOf}
 use Rattle.settings.specs.Settings.{with_stack_check}
@@ -9,8 +9,6 @@ use Rattle.encoding.specs.Codec.{decode_of}
 use Rattle.encoding.specs.declared.operation.Operation.{Operation}
 use Rattle.encoding.specs.declared.operation.Decoded.TheVariants as decoded
 use Rattle.semantics.specs.declared.answer.Refusal.{Refusal}
-use Rattle.semantics.specs.declared.answer.Executed.{Executed}
-use Rattle.semantics.specs.declared.answer.Executed.TheVariants.{Done, Refused}
 use Rattle.semantics.specs.Answer.{executed_answer, executed_number}
 use Rattle.semantics.specs.State.{State, Public, public_of}
 use Rattle.semantics.specs.Effect.{writes_of, effect_of}
@@ -27,9 +25,9 @@ AnswersAgree = (s : Settings) (w : ℕ) (u : Public) → executed_answer (answer
 -- What executing promises leaves nothing open, from the promise alone, whichever function meets it: one answer and one state, which with another
 -- number than 0 is that of the start.
 pub record ExecutesDetermine (s : Settings) (w : ℕ) (t : State) : Type 0 where
-  pub met : Met (λ (o : Executed × State). Executes s w t o.0 o.1)
-  pub determined : Determined (λ (o : Executed × State). Executes s w t o.0 o.1)
-  pub refused : (r : Executed) (t' : State) → Executes s w t r t' → (executed_number r ≡ 0 → ⊥) → t' ≡ t
+  pub met : Met (λ (o : Result ⊤ Refusal × State). Executes s w t o.0 o.1)
+  pub determined : Determined (λ (o : Result ⊤ Refusal × State). Executes s w t o.0 o.1)
+  pub refused : (r : Result ⊤ Refusal) (t' : State) → Executes s w t r t' → (executed_number r ≡ 0 → ⊥) → t' ≡ t
 
 abbrev pub ExecutingDetermines : Type 0
 ExecutingDetermines = (s : Settings) (w : ℕ) (t : State) → ExecutesDetermine s w t
@@ -48,7 +46,7 @@ ExecutionKeeps = (s : Settings) (w : ℕ) (t : State) → Keeps t (execute_of s 
 -- a word that is done does what its operation means, in the sentences of document 01; and these leave nothing open: no other state meets them, where X, P and
 -- the lengths stay
 abbrev pub IsDone : Settings → ℕ → State → Operation → Type 0
-IsDone s w t o = (decode_of w s.level ≡ decoded.Done o) × ((execute_of s w t).answer ≡ Done)
+IsDone s w t o = (decode_of w s.level ≡ decoded.Done o) × ((execute_of s w t).answer ≡ Ok tt)
 
 abbrev pub OperationsMean : Type 0
 OperationsMean = (s : Settings) (w : ℕ) (t : State) (o : Operation) → IsDone s w t o → Means s t (execute_of s w t).state o
@@ -85,10 +83,10 @@ EffectLeavesOthers = (s : Settings) (o : Operation) (t : State) → LeavesOthers
 pub record RunsGoOn (s : Settings) (t : State) : Type 0 where
   pub one : (w : ℕ) → (run_of s (w ∷ []) t).ending ≡ execute_of s w t
   pub counted : (w : ℕ) → (run_of s (w ∷ []) t).words ≡ if_done (execute_of s w t).answer 0 1
-  pub more : (ws vs : List ℕ) → (run_of s ws t).ending.answer ≡ Done →
+  pub more : (ws vs : List ℕ) → (run_of s ws t).ending.answer ≡ Ok tt →
       ((run_of s (ws ++ vs) t).ending ≡ (run_of s vs (run_of s ws t).ending.state).ending) ×
       ((run_of s (ws ++ vs) t).words ≡ (run_of s ws t).words + (run_of s vs (run_of s ws t).ending.state).words)
-  pub stops : (ws vs : List ℕ) (r : Refusal) → (run_of s ws t).ending.answer ≡ Refused r → run_of s (ws ++ vs) t ≡ run_of s ws t
+  pub stops : (ws vs : List ℕ) (r : Refusal) → (run_of s ws t).ending.answer ≡ Err r → run_of s (ws ++ vs) t ≡ run_of s ws t
 
 abbrev pub RunGoesOn : Type 0
 RunGoesOn = (s : Settings) (t : State) → RunsGoOn s t

@@ -2,7 +2,7 @@
 -- To believe: the order of the checks, when each fails, and that only answer 0 changes a buffer. The answer goes by settings,
 -- word and `Public` alone.
 -- Assumes nothing.
-use Rattle.std.specs.Prelude.{ℕ, ◌+◌, ◌%◌, ◌^◌, Bool, true, false, ◌&&◌, not, List, eqb, leb, length}
+use Rattle.std.specs.Prelude.{ℕ, ◌+◌, ◌%◌, ◌^◌, Bool, true, false, ◌&&◌, not, List, eqb, leb, length, Result, ⊤, Ok, Err}
 use Rattle.std.proofs.Math.Option.{Option, none, some}
 use Rattle.general.specs.Least.{least, is_some}
 use Rattle.settings.specs.Settings.{valid_settings, lengths_of}
@@ -16,8 +16,6 @@ use Rattle.encoding.specs.declared.operation.Decoded.TheVariants as decoded
 use Rattle.semantics.specs.declared.answer.Fault.{Fault}
 use Rattle.semantics.specs.declared.answer.Refusal.{Refusal}
 use Rattle.semantics.specs.declared.answer.Refusal.TheVariants.{BadSettings, BadLengths, Undecodable, StreamingOff, ZaOff, StackMisaligned, OutsideMemory}
-use Rattle.semantics.specs.declared.answer.Executed.{Executed}
-use Rattle.semantics.specs.declared.answer.Executed.TheVariants.{Done, Refused}
 use Rattle.semantics.specs.State.{State, Public, public_of}
 use Rattle.semantics.specs.Access.{base_of, address_of, element_of, in_memory}
 use Rattle.semantics.specs.Effect.{active_under, effect_of}
@@ -25,9 +23,9 @@ use Rattle.semantics.specs.Effect.{active_under, effect_of}
 -- ---- the answer
 
 -- the rest where a check holds, else the refusal
-abbrev pub guard : Bool → Refusal → Executed → Executed
+abbrev pub guard : Bool → Refusal → Result ⊤ Refusal → Result ⊤ Refusal
 guard true refusal rest = rest
-guard false refusal rest = Refused refusal
+guard false refusal rest = Err refusal
 
 -- the lengths that settings fix, and memory ends at 2^64 or before
 abbrev pub valid_lengths : Settings → ℕ → ℕ → ℕ → ℕ → ℕ → Bool
@@ -35,7 +33,7 @@ valid_lengths s lx lz lp lza lm =
     eqb lx (lengths_of s).x && eqb lz (lengths_of s).z && eqb lp (lengths_of s).p && eqb lza (lengths_of s).za && leb (s.memory_address + lm) (2 ^ 64)
 
 -- settings and lengths, then the rest
-abbrev pub buffers_answer : Settings → ℕ → ℕ → ℕ → ℕ → ℕ → Executed → Executed
+abbrev pub buffers_answer : Settings → ℕ → ℕ → ℕ → ℕ → ℕ → Result ⊤ Refusal → Result ⊤ Refusal
 buffers_answer s lx lz lp lza lm rest = guard (valid_settings s) BadSettings (guard (valid_lengths s lx lz lp lza lm) BadLengths rest)
 
 module _ (s : Settings) (x p : List ℕ) (lm : ℕ) where
@@ -55,9 +53,9 @@ module _ (s : Settings) (x p : List ℕ) (lm : ℕ) where
   abbrev pub fault_at : SliceAccess → ℕ → Fault
   fault_at o k = record { address = address_of x o k; element = element_of o k }
 
-  abbrev pub fault_answer : SliceAccess → Option ℕ → Executed
-  fault_answer o none = Done
-  fault_answer o (some k) = Refused (OutsideMemory (fault_at o k))
+  abbrev pub fault_answer : SliceAccess → Option ℕ → Result ⊤ Refusal
+  fault_answer o none = Ok tt
+  fault_answer o (some k) = Err (OutsideMemory (fault_at o k))
 
   -- the stack pointer is the base, some element is active, and the stack pointer is no multiple of 16
   abbrev pub misaligned : SliceAccess → Bool
@@ -67,26 +65,26 @@ module _ (s : Settings) (x p : List ℕ) (lm : ℕ) where
   abbrev pub stack_bad : SliceAccess → Bool
   stack_bad o = misaligned o && s.stack_check
 
-  unfoldable pub access_answer : SliceAccess → Executed
+  unfoldable pub access_answer : SliceAccess → Result ⊤ Refusal
   access_answer o = guard (not (stack_bad o)) StackMisaligned (fault_answer o (fault_of o))
 
   -- only a load or store can be refused once streaming and ZA are on
-  abbrev pub operation_answer : Operation → Executed
-  operation_answer (MovaToTile o) = Done
-  operation_answer (MovazFromTile o) = Done
-  operation_answer (MovaFromArray o) = Done
-  operation_answer (MovazFromArray o) = Done
+  abbrev pub operation_answer : Operation → Result ⊤ Refusal
+  operation_answer (MovaToTile o) = Ok tt
+  operation_answer (MovazFromTile o) = Ok tt
+  operation_answer (MovaFromArray o) = Ok tt
+  operation_answer (MovazFromArray o) = Ok tt
   operation_answer (St1 o) = access_answer o
-  operation_answer (MovaFromTile o) = Done
+  operation_answer (MovaFromTile o) = Ok tt
   operation_answer (Ld1 o) = access_answer o
 
   -- once settings and lengths are right
-  abbrev pub word_answer : Decoded → Executed
+  abbrev pub word_answer : Decoded → Result ⊤ Refusal
   word_answer (decoded.Done o) = guard s.streaming StreamingOff (guard s.za ZaOff (operation_answer o))
-  word_answer decoded.BadLevel = Refused Undecodable
-  word_answer decoded.Undecodable = Refused Undecodable
+  word_answer decoded.BadLevel = Err Undecodable
+  word_answer decoded.Undecodable = Err Undecodable
 
-unfoldable pub answer_of : Settings → ℕ → Public → Executed
+unfoldable pub answer_of : Settings → ℕ → Public → Result ⊤ Refusal
 answer_of s w u =
     buffers_answer s (length u.x) u.z_length (length u.p) u.za_length u.memory_length
     (word_answer s u.x u.p u.memory_length (decode_of w s.level))
@@ -100,12 +98,12 @@ word_effect s decoded.BadLevel t = t
 word_effect s decoded.Undecodable t = t
 
 -- an effect only with done
-abbrev pub if_done : {A : Type 0} → Executed → A → A → A
-if_done Done before after = after
-if_done (Refused r) before after = before
+abbrev pub if_done : {A : Type 0} → Result ⊤ Refusal → A → A → A
+if_done (Ok _) before after = after
+if_done (Err r) before after = before
 
 pub record Outcome : Type 0 where
-  pub answer : Executed
+  pub answer : Result ⊤ Refusal
   pub state : State
 
 unfoldable pub execute_of : Settings → ℕ → State → Outcome

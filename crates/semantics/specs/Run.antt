@@ -1,9 +1,8 @@
 -- Several words, one after another on one state, up to the first that is not done.
 -- To believe: `run_of`.
 -- Assumes nothing.
-use Rattle.std.specs.Prelude.{ℕ, suc, List, [], ◌∷◌}
+use Rattle.std.specs.Prelude.{ℕ, suc, List, [], ◌∷◌, Ok}
 use Rattle.settings.specs.declared.Settings.{Settings}
-use Rattle.semantics.specs.declared.answer.Executed.TheVariants.{Done}
 use Rattle.semantics.specs.State.{State}
 use Rattle.semantics.specs.Execute.{Outcome, if_done, execute_of}
 
@@ -17,7 +16,7 @@ abbrev pub one_more : Ran → Ran
 one_more r = record { words = suc r.words; ending = r.ending }
 
 unfoldable pub run_of : Settings → List ℕ → State → Ran
-run_of s [] t = record { words = 0; ending = record { answer = Done; state = t } }
+run_of s [] t = record { words = 0; ending = record { answer = Ok tt; state = t } }
 run_of s (w ∷ ws) t =
     let o = execute_of s w t in
     if_done o.answer (record { words = 0; ending = o }) (one_more (run_of s ws o.state))

@@ -1,10 +1,10 @@
 -- What single steps of executing rely on and promise. Only contracts of inner functions cite these: nothing here has to be believed.
 -- Assumes nothing.
-use Rattle.std.specs.Prelude.{ℕ, ◌+◌, ◌≤◌, ◌^◌, ◌≡◌, true, List, length}
+use Rattle.std.specs.Prelude.{ℕ, ◌+◌, ◌≤◌, ◌^◌, ◌≡◌, true, List, length, Result, ⊤}
 use Rattle.settings.specs.Settings.{valid_vectors, max_level, lengths_of}
 use Rattle.settings.specs.declared.Settings.{Settings}
 use Rattle.encoding.specs.declared.operation.Operation.{Operation}
-use Rattle.semantics.specs.declared.answer.Executed.{Executed}
+use Rattle.semantics.specs.declared.answer.Refusal.{Refusal}
 use Rattle.semantics.specs.State.{State, state_of}
 use Rattle.semantics.specs.Effect.{effect_of}
 use Rattle.semantics.specs.Execute.{operation_answer, if_done}
@@ -20,7 +20,7 @@ pub record Sized (s : Settings) (lx lz lp lza lm : ℕ) : Type 0 where
   pub memory : s.memory_address + lm ≤ 2 ^ 64
 
 -- performing a decoded operation: the answer, and the state, whichever answer
-pub record Performs (s : Settings) (o : Operation) (t : State) (r : Executed) (t' : State) : Type 0 where
+pub record Performs (s : Settings) (o : Operation) (t : State) (r : Result ⊤ Refusal) (t' : State) : Type 0 where
   pub answer : r ≡ operation_answer s t.x t.p (length t.memory) o
   pub state : t' ≡ if_done r t (effect_of s o t)
 

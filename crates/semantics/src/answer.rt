@@ -1,17 +1,17 @@
-// The answer of one execution (document 01 §6).
+// The answer of one execution (document 01 §6): done, or why nothing was.
 ghost use Rattle.std.specs.Prelude.{◌≡◌};
 ghost use Rattle.semantics.specs.Answer.{refusal_number, refusal_fault, executed_number, executed_fault};
 
 // Where a load or store leaves memory: the address of the first byte that is not in memory, of the lowest-numbered active
 // element that has one, and the number of that element (request 6).
-#[derive(Clone, Copy)]
+#[derive(Clone, Copy, Debug, PartialEq, Eq)]
 pub struct Fault {
     pub address: u64,
     pub element: u64,
 }
 
 // Why nothing was done.
-#[derive(Clone, Copy)]
+#[derive(Clone, Copy, Debug, PartialEq, Eq)]
 pub enum Refusal {
     BadSettings,
     BadLengths,
@@ -22,18 +22,12 @@ pub enum Refusal {
     OutsideMemory(Fault),
 }
 
-#[derive(Clone, Copy)]
-pub enum Executed {
-    Done,
-    Refused(Refusal),
-}
+// The answer's number of document 01 §6.
+impl From<Refusal> for u32 {
+    ghost from_gives = { λ refusal number. number ≡ refusal_number refusal };
 
-impl Refusal {
-    // The answer's number of document 01 §6.
-    pub fn number(self) -> u32
-        ensures { result ≡ refusal_number self }
-    {
-        match self {
+    fn from(refusal: Refusal) -> u32 {
+        match refusal {
             Refusal::BadSettings => 1,
             Refusal::BadLengths => 2,
             Refusal::Undecodable => 3,
@@ -43,7 +37,9 @@ impl Refusal {
             Refusal::OutsideMemory(_) => 7,
         }
     }
+}
 
+impl Refusal {
     // What answer 7 carries, zeros with every other (request 6).
     pub fn fault(self) -> Fault
         ensures { result ≡ refusal_fault self }
@@ -58,27 +54,25 @@ impl Refusal {
     }
 }
 
-impl Executed {
-    // The answer's number of document 01 §6.
-    pub fn number(self) -> u32
-        ensures { result ≡ executed_number self }
-    {
-        match self {
-            Executed::Done => 0,
-            Executed::Refused(refusal) => refusal.number(),
-        }
+// The number of an answer, 0 with done (document 01 §6).
+pub fn answer_number(answer: Result<(), Refusal>) -> u32
+    ensures { result ≡ executed_number answer }
+{
+    match answer {
+        Ok(()) => 0,
+        Err(refusal) => u32::from(refusal),
     }
+}
 
-    // What answer 7 carries, zeros with every other (request 6).
-    pub fn fault(self) -> Fault
-        ensures { result ≡ executed_fault self }
-    {
-        match self {
-            Executed::Done => Fault {
-                address: 0,
-                element: 0,
-            },
-            Executed::Refused(refusal) => refusal.fault(),
-        }
+// What answer 7 carries, zeros with every other (request 6): the results that a host gets.
+pub fn fault_of(answer: Result<(), Refusal>) -> Fault
+    ensures { result ≡ executed_fault answer }
+{
+    match answer {
+        Ok(()) => Fault {
+            address: 0,
+            element: 0,
+        },
+        Err(refusal) => refusal.fault(),
     }
 }

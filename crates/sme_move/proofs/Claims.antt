@@ -1,5 +1,6 @@
 -- Each theorem of specs/Claims.antt.
 -- Assumes nothing.
+use Rattle.std.specs.Prelude.{Result, ⊤}
 use Prim.Native.Nat.{ℕ}
 use mathlib.Core.Path.{◌≡◌, refl, sym, ap, ◌∙◌, subst}
 use mathlib.Core.Bool.{Bool, false, cond}
@@ -19,11 +20,11 @@ use Rattle.settings.proofs.ResultLaws.{results_fill}
 use Rattle.settings.proofs.Claims.{vectors_fit, passed, failed, lent_settings}
 use Rattle.encoding.specs.Codec.{decode_answer, encode_answer}
 use Rattle.encoding.proofs.AnswerLaws.{decode_answered, encode_answered}
+use Rattle.semantics.specs.declared.answer.Refusal.{Refusal}
 use Rattle.semantics.specs.Answer.{executed_number, result_numbers}
 use Rattle.semantics.specs.State.{State, public_of}
 use Rattle.semantics.specs.Lines.{answer_in_numbers}
 use Rattle.semantics.specs.Execute.{execute_of}
-use Rattle.semantics.specs.declared.answer.Executed.{Executed}
 use Rattle.semantics.proofs.AnswerLaws.{executed_numbers, executed_zeros}
 use Rattle.semantics.proofs.Claims.{definition_executes, executing_determines, answers_exactly}
 use Rattle.sme_move.specs.Export.{Exports, fields_after, DecodeExports, EncodeExports, LengthExports}
@@ -35,7 +36,7 @@ exports_determine : (s : Settings) (w : ℕ) (t : State) (rs : List ℕ) → Exp
 exports_determine s w t rs = record {
   met = ((executed_number a, filled (result_numbers a) rs, (execute_of s w t).state), record { answer = a; executes = definition_executes s w t; number = refl; results = refl });
   determined = equal_determines (λ (o : ℕ × List ℕ × State). Exports s w t rs o.0 o.1 o.2) (executed_number a, filled (result_numbers a) rs, (execute_of s w t).state)
-      (λ o p i. (number p i, (p.results ∙ ap (λ (e : Executed). filled (result_numbers e) rs) p.executes.answer) i, p.executes.state i));
+      (λ o p i. (number p i, (p.results ∙ ap (λ (e : Result ⊤ Refusal). filled (result_numbers e) rs) p.executes.answer) i, p.executes.state i));
   numbers = λ r rs' t' p. subst (IsOneOf (0 ∷ 1 ∷ 2 ∷ 3 ∷ 4 ∷ 5 ∷ 6 ∷ 7 ∷ [])) (sym p.number) (executed_numbers p.answer);
   table = λ r rs' t' p.
       (p.number ∙ ap (λ (a : Answer). a.number) p.executes.numbers, p.results ∙ ap (λ (a : Answer). filled (nth_value a 0 ∷ nth_value a 1 ∷ []) rs) p.executes.numbers);
@@ -43,11 +44,11 @@ exports_determine s w t rs = record {
   outside = λ r rs' t' p e.
       let given = p.executes.answer in
       let o = (answers_exactly s w t).1.seven (sym (p.number ∙ ap executed_number given) ∙ e) in
-      (o, p.results ∙ ap (λ (a : Executed). filled (result_numbers a) rs) given ∙ (λ i. filled (o.told_address i ∷ o.told_element i ∷ []) rs));
+      (o, p.results ∙ ap (λ (a : Result ⊤ Refusal). filled (result_numbers a) rs) given ∙ (λ i. filled (o.told_address i ∷ o.told_element i ∷ []) rs));
   zeros = λ r rs' t' p n. p.results ∙ ap (λ (ns : List ℕ). filled ns rs) (executed_zeros p.answer (λ e. n (p.number ∙ e)));
 }
   where
-    a : Executed
+    a : Result ⊤ Refusal
     a = (execute_of s w t).answer
 
     number : {r : ℕ} {rs' : List ℕ} {t' : State} → Exports s w t rs r rs' t' → r ≡ executed_number (execute_of s w t).answer

@@ -1,5 +1,6 @@
 -- Laws of specs/Export.antt: what the inner functions promise, in the numbers that hosts get.
 -- Assumes nothing.
+use Rattle.std.specs.Prelude.{Result, ⊤}
 use Prim.Native.Nat.{ℕ}
 use mathlib.Core.Path.{◌≡◌, refl, sym, ◌∙◌, ap, subst}
 use mathlib.Core.Bool.{Bool, true, false, cond}
@@ -18,11 +19,11 @@ use Rattle.encoding.specs.declared.operation.Decoded.{Decoded}
 use Rattle.encoding.specs.declared.operation.Decoded.TheVariants.{Done, BadLevel, Undecodable}
 use Rattle.settings.specs.Results.{filled}
 use Rattle.settings.proofs.ResultLaws.{puts_more}
+use Rattle.semantics.specs.declared.answer.Refusal.{Refusal}
 use Rattle.semantics.specs.Answer.{executed_number, executed_fault, result_numbers}
 use Rattle.semantics.specs.State.{State}
 use Rattle.semantics.specs.Promise.{Executes}
 use Rattle.semantics.specs.declared.answer.Fault.{Fault}
-use Rattle.semantics.specs.declared.answer.Executed.{Executed}
 use Rattle.sme_move.specs.Export.{Exports, fields_after, DecodeExports, LengthExports}
 
 -- ---- decoding
@@ -53,12 +54,12 @@ module _ (w level : ℕ) (f : List ℕ) (d : Decoded) (h : Decodes w level d) wh
 -- ---- results
 
 -- the results of an execution, put one after the other
-pub fills : (old : List ℕ) (e : Executed) {once twice : List ℕ} (f : Fault) → f ≡ executed_fault e → once ≡ set old 0 f.address → twice ≡ set once 1 f.element → twice ≡ filled (result_numbers e) old
+pub fills : (old : List ℕ) (e : Result ⊤ Refusal) {once twice : List ℕ} (f : Fault) → f ≡ executed_fault e → once ≡ set old 0 f.address → twice ≡ set once 1 f.element → twice ≡ filled (result_numbers e) old
 fills old e f q first second =
     puts_more (f.address ∷ []) old f.element (puts_more [] old f.address refl first) second ∙ ap (λ (g : Fault). filled (g.address ∷ g.element ∷ []) old) q
 
 -- what executing promises of settings that were read, with number and results
-pub execute_exports : {s s' : Settings} {w : ℕ} {t t' : State} {e : Executed} {rs rs' : List ℕ} {r : ℕ} → s ≡ s' → Executes s w t e t' → r ≡ executed_number e → rs' ≡ filled (result_numbers e) rs → Exports s' w t rs r rs' t'
+pub execute_exports : {s s' : Settings} {w : ℕ} {t t' : State} {e : (Result ⊤ Refusal)} {rs rs' : List ℕ} {r : ℕ} → s ≡ s' → Executes s w t e t' → r ≡ executed_number e → rs' ≡ filled (result_numbers e) rs → Exports s' w t rs r rs' t'
 execute_exports {w} {t} {t'} {e} {rs} {rs'} {r} q h n f = subst (λ (s : Settings). Exports s w t rs r rs' t') q (record { answer = e; executes = h; number = n; results = f })
 
 -- ---- lengths

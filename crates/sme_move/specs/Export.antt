@@ -2,16 +2,16 @@
 -- To believe: an answer is given as its number; results (an address, an element, a word) are written whatever the answer, those of an execution as far as the
 -- host's array has places, and buffers only with answer 0. What settings a host's numbers are stands in crates/settings/specs/Lent.antt.
 -- Assumes nothing.
-use Rattle.std.specs.Prelude.{ℕ, ◌+◌, ◌*◌, ◌≡◌, cond, List, eqb}
+use Rattle.std.specs.Prelude.{ℕ, ◌+◌, ◌*◌, ◌≡◌, cond, List, eqb, Result, ⊤}
 use Rattle.settings.specs.Answer.{Answer, nth_value, done, bad_settings}
 use Rattle.settings.specs.Settings.{valid_vectors, lengths_of, length_numbers}
 use Rattle.settings.specs.Results.{filled}
 use Rattle.settings.specs.declared.Settings.{Settings}
 use Rattle.encoding.specs.Codec.{decode_answer, encode_answer}
+use Rattle.semantics.specs.declared.answer.Refusal.{Refusal}
 use Rattle.semantics.specs.Answer.{executed_number, result_numbers}
 use Rattle.semantics.specs.State.{State}
 use Rattle.semantics.specs.Promise.{Executes}
-use Rattle.semantics.specs.declared.answer.Executed.{Executed}
 
 -- the version of what is exported: major and minor number
 abbrev pub version : ℕ
@@ -23,7 +23,7 @@ listing_version = 65536 * 0 + 9
 
 -- one execution: what executing promises, with the number of its answer, and its results in the host's array
 pub record Exports (s : Settings) (w : ℕ) (t : State) (rs : List ℕ) (r : ℕ) (rs' : List ℕ) (t' : State) : Type 0 where
-  pub answer : Executed
+  pub answer : Result ⊤ Refusal
   pub executes : Executes s w t answer t'
   pub number : r ≡ executed_number answer
   pub results : rs' ≡ filled (result_numbers answer) rs

@@ -78,8 +78,8 @@ pub extern "C" fn sme_execute_word(
     let settings = settings::settings_in(given);
     let answer = execute::execute(settings, word, x, z, p, za, memory);
     // Both are known before the tests, which then cost a jump each and not one on each way out.
-    let number = answer.number();
-    let fault = answer.fault();
+    let number = semantics::answer_number(answer);
+    let fault = semantics::fault_of(answer);
     put_result(results, 0, fault.address);
     put_result(results, 1, fault.element);
     number

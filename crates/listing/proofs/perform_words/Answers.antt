@@ -20,7 +20,7 @@ returns-in_default c =
 pub loop-i-preserved : goal.loop-i-preserved
 loop-i-preserved c = (
   omega arith,
-  onward_done _ _ _ _ _ _ c.loop-i.invariant.1 _ _ _ c.loop-i-test.true c.word_at-word.ensures c.perform-answer.ensures c.in-Done.is,
+  onward_done _ _ _ _ _ _ c.loop-i.invariant.1 _ _ _ c.loop-i-test.true c.word_at-word.ensures c.perform-answer.ensures c.in-Ok.is,
 )
 
 pub returns : goal.returns

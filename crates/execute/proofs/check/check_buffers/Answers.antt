@@ -1,5 +1,6 @@
 -- `execute::check_buffers` meets its contract: each test is one of those that the definition has.
 -- Assumes nothing.
+use Rattle.std.specs.Prelude.{Ok, Err}
 use native.Mathlib.Omega.{arith}
 use Prim.Native.Nat.{◌+◌, ◌^◌, ◌≤◌}
 use mathlib.Core.Path.{◌≡◌, sym, ◌∙◌}
@@ -8,7 +9,6 @@ use Rattle.settings.specs.Settings.{valid_settings, lengths_of}
 use Rattle.settings.proofs.SettingsLaws.{checked_valid, checked_bad}
 use Rattle.semantics.proofs.ExecuteLaws.{settings_facts}
 use Rattle.semantics.specs.declared.answer.Refusal.TheVariants.{BadLengths}
-use Rattle.semantics.specs.declared.answer.Executed.TheVariants.{Done, Refused}
 use Rattle.semantics.specs.Steps.{Sized}
 use Rattle.execute.specs.Promise.{ChecksBuffers}
 use Rattle.execute.proofs.CheckLaws.{lengths_parts, bad_settings_lem, bad_lengths_lem, right_lengths_lem}
@@ -24,10 +24,10 @@ measured : (c : After-lengths-lengths) → let s = c.args.settings in let l = c.
 measured c = lengths_parts c.args.settings c.lengths-lengths.result c.lengths-lengths.ensures
 
 -- lengths that are not right, and that are
-refuses : (c : After-lengths-lengths) → let a = c.args in (Sized a.settings a.x a.z a.p a.za a.memory → ⊥) → ChecksBuffers a.settings a.x a.z a.p a.za a.memory (Refused BadLengths)
+refuses : (c : After-lengths-lengths) → let a = c.args in (Sized a.settings a.x a.z a.p a.za a.memory → ⊥) → ChecksBuffers a.settings a.x a.z a.p a.za a.memory (Err BadLengths)
 refuses c = let a = c.args in bad_lengths_lem a.settings a.x a.z a.p a.za a.memory (ok c.before)
 
-passes : (c : After-lengths-lengths) → let a = c.args in let l = lengths_of a.settings in (a.x ≡ l.x) × (a.z ≡ l.z) × (a.p ≡ l.p) × (a.za ≡ l.za) → a.settings.memory_address + a.memory ≤ 2 ^ 64 → ChecksBuffers a.settings a.x a.z a.p a.za a.memory Done
+passes : (c : After-lengths-lengths) → let a = c.args in let l = lengths_of a.settings in (a.x ≡ l.x) × (a.z ≡ l.z) × (a.p ≡ l.p) × (a.za ≡ l.za) → a.settings.memory_address + a.memory ≤ 2 ^ 64 → ChecksBuffers a.settings a.x a.z a.p a.za a.memory (Ok tt)
 passes c h m =
     let a = c.args in
     let settings = settings_facts a.settings (ok c.before) in

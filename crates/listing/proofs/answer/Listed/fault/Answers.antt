@@ -7,4 +7,4 @@ pub returns-in-BadListing : goal.returns-in-BadListing
 returns-in-BadListing c = rw c.in-BadListing.is refl
 
 pub returns-in-Ended : goal.returns-in-Ended
-returns-in-Ended c = rw c.in-Ended.is c.fault.ensures
+returns-in-Ended c = rw c.in-Ended.is c.fault_of.ensures
