@@ -1,5 +1,4 @@
 mod PredicateLaws
 mod WindowLaws
-mod FaultLaws
 mod AccessLaws
 mod TransferLaws

@@ -1,18 +1,15 @@
--- Laws of specs/Window.antt: which bytes are covered, what is read of memory and written back there, and the window that code finds.
+-- Laws of specs/Window.antt: which bytes are covered, and what is read of memory and written back there.
 -- Assumes nothing.
-use Rattle.std.proofs.Common.{◌≡◌, ℕ, ◌+◌, ◌-◌, ◌*◌, ◌%◌, ◌^◌, ◌<◌, ◌≤◌, min, Bool, true, false, cond, ◌&&◌, ltb, leb, ◌⊎◌, List, length, get_or, sym, refl, ap, ◌∙◌, subst, subst₂, inl, inr, ⊎_elim, zero-add, mul-one, arith, ltb-true, le-ltb, lt-ltb, le-leb, leb-true}
+use Rattle.std.proofs.Common.{◌≡◌, ℕ, ◌+◌, ◌-◌, ◌^◌, ◌<◌, ◌≤◌, min, Bool, true, cond, ◌&&◌, ltb, leb, ◌⊎◌, List, ◌++◌, length, get_or, take, drop, length-take-le, get_or-take, sym, refl, ap, ◌∙◌, subst, inl, inr, ⊎_elim, zero-add, arith, ltb-true, lt-ltb, le-leb, leb-true}
 use native.Mathlib.Decide.{dec_lt}
 use lib.ListN.{get_or-eq_default}
-use Rattle.settings.specs.Settings.{max_vector_bytes}
+use borrow.Rule.Slice.PartMut.{put_mid}
 use Rattle.general.specs.Scatter.{scatter, all, onwards}
-use Rattle.general.proofs.BoolLaws.{and_parts, and_both, or_parts, or_right, by_test, refute}
+use Rattle.general.proofs.BoolLaws.{and_parts, and_both, or_parts, or_right, by_test}
 use Rattle.general.proofs.ScatterLaws.{length-scatter, get_or-scatter, get_or-scatter_other, lists_agree}
-use Rattle.tiles.specs.declared.span.Span.{Span}
-use Rattle.tiles.specs.Span.{span_at}
-use Rattle.moves.specs.Paired.{Paired, value_at}
-use Rattle.moves.proofs.SpanLaws.{run_written}
+use Rattle.moves.proofs.PartLaws.{lent, lent_length, lent_byte, lent_scatter}
 use Rattle.access.specs.declared.window.Window.{Window}
-use Rattle.access.specs.Window.{covered, Fits, Placed, Windowed, copied, window_read, window_written}
+use Rattle.access.specs.Window.{covered, Fits, Placed, copied, window_read, window_written}
 
 -- ---- which bytes are covered: those of the first part and of the second, and no other
 
@@ -29,13 +26,10 @@ module _ (w : Window) (k : ℕ) where
   pub covered_second : w.skip ≤ k → k < w.skip + w.tail → covered w k ≡ true
   covered_second h t = or_right (ltb k w.head) _ (and_both _ _ (le-leb _ _ h) (lt-ltb _ _ t))
 
-  pub covered_not : (k < w.head → ⊥) → (w.skip ≤ k → k < w.skip + w.tail → ⊥) → covered w k ≡ false
-  covered_not h t = refute (covered w k) (λ e. ⊎_elim h (λ p. t p.0 p.1) (covered_cases e))
-
 -- what fits in a vector fits in a longer one
 pub fits_more : {w : Window} {n n' lm : ℕ} → Fits w n lm → n ≤ n' → Fits w n' lm
 fits_more f h =
-    record { order = f.order; end = omega arith; first = f.first; second = f.second; apart = f.apart }
+    record { end = omega arith; first = f.first; second = f.second; apart = f.apart }
 
 -- what holds of each byte of both parts, with its index of memory, holds of each covered byte with its place
 by_part : {w : Window} {place : ℕ → ℕ} → Placed w place → (P : ℕ → ℕ → Type 0) → ((k : ℕ) → k < w.head → P k (w.at + k)) → ((k : ℕ) → k < w.tail → P (w.skip + k) k) → (k : ℕ) → covered w k ≡ true → P k (place k)
@@ -137,58 +131,44 @@ module _ {w : Window} {n : ℕ} (memory : List ℕ) (fits : Fits w n (length mem
       ∙ sym (get_or-scatter place on val n memory k b.0 b.1 (λ j h t. covered_apart k y j (within j h t))))
       (λ q away. written_beside v q away ∙ sym (get_or-scatter_other place on val n memory q (λ k h t. away k (within k h t))))
 
--- ---- bytes that are copied, as spans
+-- ---- bytes that are copied to a part of a list
 
-abbrev bytes_from : ℕ → ℕ → Span
-bytes_from start count = record { start = start; step = 1; count = count }
+-- a part that is filled whole
+filled : (val : ℕ → ℕ) (n : ℕ) (l part : List ℕ) → length l ≡ n → length part ≡ n → ((k : ℕ) → k < n → get_or part k 0 ≡ val k) → part ≡ scatter (onwards 0) all val n l
+filled val n l part long length_is same =
+    lists_agree (λ (k : ℕ). k) n part _ (length_is ∙ sym (length-scatter (onwards 0) all val n l ∙ long))
+    (λ k w. same k w ∙ sym (start_byte all val n l k w (omega arith)))
+    (λ q away. beyond q (dec_lt q n) away)
+  where
+    beyond : (q : ℕ) → Dec (q < n) → ((k : ℕ) → k < n → q ≡ k → ⊥) → get_or part q 0 ≡ get_or (scatter (onwards 0) all val n l) q 0
+    beyond q (yes w) away = absurd (away q w refl)
+    beyond q (no w) away =
+        get_or-eq_default part 0 (omega arith) ∙ sym (get_or-eq_default (scatter (onwards 0) all val n l) 0 (rw (length-scatter (onwards 0) all val n l) (omega arith)))
 
-module _ {to from : Span} {a b count : ℕ} (p : to ≡ bytes_from a count) (q : from ≡ bytes_from b count) where
-  -- what `copy` relies on
-  pub bytes_paired : {ld ls : ℕ} → count ≤ max_vector_bytes → a + count ≤ ld → b + count ≤ ls → Paired to from 1 ld ls
-  bytes_paired short written read =
-      rw (p, q) (record { same = refl; short = omega arith; written = (omega arith, λ e h. omega arith); read = (omega arith, λ e h. omega arith) })
+-- as the parts come back: one in the middle of a list, with the first bytes of another, and one at its start, with bytes from the middle of another
+pub copied_inside : (a n : ℕ) (src dst : List ℕ) {part : List ℕ} → n ≤ length src → a + n ≤ length dst → part ≡ take n src → put_mid a (a + n - a) dst part ≡ copied a src 0 n dst
+copied_inside a n src dst {part} has room e =
+    let val : ℕ → ℕ = λ k. get_or src (0 + k) 0 in
+    ap (put_mid a (a + n - a) dst) (filled val n (lent a n dst) part (lent_length a n dst room) (ap length e ∙ length-take-le n src has) byte)
+    ∙ lent_scatter all val a n dst room n (omega arith)
+  where
+    byte : (k : ℕ) → k < n → get_or part k 0 ≡ get_or src (0 + k) 0
+    byte k w = ap (λ (l : List ℕ). get_or l k 0) e ∙ get_or-take n src k 0 w ∙ ap (λ (i : ℕ). get_or src i 0) (sym (zero-add k))
 
-  -- what it promises
-  pub bytes_copied : (src dst : List ℕ) {d : List ℕ} → d ≡ scatter (span_at to 1) all (value_at src from 1) (to.count * 1) dst → d ≡ copied a src b count dst
-  bytes_copied src dst {d} e =
-      subst₂ (λ (t f : Span). d ≡ scatter (span_at t 1) all (value_at src f 1) (t.count * 1) dst) p q e
-      ∙ sym (run_written (bytes_from a count) (bytes_from b count) 1 src refl refl all (λ k v. v) (count * 1) dst refl)
-      ∙ ap (λ (n : ℕ). copied a src b n dst) (mul-one count)
+pub copied_front : (b n : ℕ) (src dst : List ℕ) {part : List ℕ} → b + n ≤ length src → n ≤ length dst → part ≡ lent b n src → part ++ drop n dst ≡ copied 0 src b n dst
+copied_front b n src dst {part} has room e =
+    let val : ℕ → ℕ = λ k. get_or src (b + k) 0 in
+    sym (ap (λ (m : ℕ). put_mid 0 m dst part) whole)
+    ∙ ap (put_mid 0 (0 + n - 0) dst) (filled val n (lent 0 n dst) part (lent_length 0 n dst (omega arith)) (ap length e ∙ lent_length b n src has) (λ k w. ap (λ (l : List ℕ). get_or l k 0) e ∙ lent_byte b n src k w))
+    ∙ lent_scatter all val 0 n dst (omega arith) n (omega arith)
+  where
+    whole : 0 + n - 0 ≡ n
+    whole = omega arith
 
--- ---- the window that code finds
+-- ---- what `min` is where memory ends at address 2^64, or in a vector
 
-module _ (at n lm : ℕ) (w : Window) (address : at < 2 ^ 64) (memory : lm < 2 ^ 64) (short : (0 < n) × (n ≤ max_vector_bytes)) where
-  -- its second part begins where addresses go past 2^64, and byte 0 has index `at` where there is a first part
-  windowed : w.head ≡ min (lm - at) n → w.skip ≡ min (2 ^ 64 - at) n → w.tail ≡ min lm (n - w.skip) → (0 < w.head → w.at ≡ at) → w.at + w.head ≤ lm → Windowed at n lm w
-  windowed head skip tail start end =
-      record {
-        fits = record { order = omega arith; end = omega arith; first = end; second = omega arith; apart = λ j k h t e. omega (arith, start (omega arith)) };
-        placed = record { first = λ k h. omega (arith, start (omega arith)); second = λ k h. omega arith };
-        inside = λ k h. go k h (dec_lt ((at + k) % 2 ^ 64) lm) (dec_lt (at + k) (2 ^ 64));
-      }
-    where
-      go : (k : ℕ) → k < n → Dec ((at + k) % 2 ^ 64 < lm) → Dec (at + k < 2 ^ 64) → ltb ((at + k) % 2 ^ 64) lm ≡ covered w k
-      go k h (yes inside) (yes before) = lt-ltb _ _ inside ∙ sym (covered_first w k (omega arith))
-      go k h (yes inside) (no past) = lt-ltb _ _ inside ∙ sym (covered_second w k (omega arith) (omega arith))
-      go k h (no outside) d =
-          le-ltb ((at + k) % 2 ^ 64) lm (omega arith) ∙ sym (covered_not w k (λ f. omega arith) (λ f g. omega arith))
-
--- how many bytes come before address 2^64, as code counts them
 before_wrap : (at n last : ℕ) → at < 2 ^ 64 → 0 < n → last ≡ min (2 ^ 64 - 1 - at) (n - 1) → last + 1 ≡ min (2 ^ 64 - at) n
 before_wrap at n last a some e = omega arith
 
--- how many are in memory from `at` on
 before_end : (at n lm head : ℕ) → at < lm → head ≡ min (lm - at) n → at + head ≤ lm
 before_end at n lm head h e = omega arith
-
-past_end : (at n lm : ℕ) → lm ≤ at → 0 ≡ min (lm - at) n
-past_end at n lm h = omega arith
-
-module _ {at n lm last tail : ℕ} (address : at < 2 ^ 64) (memory : lm < 2 ^ 64) (short : (0 < n) × (n ≤ max_vector_bytes)) (l : last ≡ min (2 ^ 64 - 1 - at) (n - 1)) (t : tail ≡ min lm (n - (last + 1))) where
-  -- byte 0 is in memory
-  pub windowed_here : {head : ℕ} → head ≡ min (lm - at) n → at < lm → Windowed at n lm (record { at = at; head = head; skip = last + 1; tail = tail })
-  windowed_here e h = windowed at n lm _ address memory short e (before_wrap at n last address short.0 l) t (λ i. refl) (before_end at n lm _ h e)
-
-  -- it is not
-  pub windowed_past : lm ≤ at → Windowed at n lm (record { at = 0; head = 0; skip = last + 1; tail = tail })
-  windowed_past h = windowed at n lm _ address memory short (past_end at n lm h) (before_wrap at n last address short.0 l) t (λ i. omega arith) (omega arith)

@@ -9,9 +9,8 @@ use Rattle.access.specs.declared.window.Window.{Window}
 abbrev pub covered : Window → ℕ → Bool
 covered w k = nat_lt k w.head || (nat_le w.skip k && nat_lt k (w.skip + w.tail))
 
--- the two parts lie one after the other in a vector of n bytes, and apart in memory of lm
+-- the two parts, which lie one after the other, end in a vector of n bytes, and lie apart in memory of lm
 pub record Fits (w : Window) (n lm : ℕ) : Type 0 where
-  pub order : w.head ≤ w.skip
   pub end : w.skip + w.tail ≤ n
   pub first : w.at + w.head ≤ lm
   pub second : w.tail ≤ lm

@@ -31,5 +31,5 @@ pub(crate) fn first_address(x: &[u64], size: ElementSize, rn: u8, rm: u8) -> u64
 {
     let base = x[rn as usize];
     let offset = offset_or_zero(x, rm);
-    std::num::wrapping_add_u64(base, scaled(offset, size))
+    base.wrapping_add(scaled(offset, size))
 }

@@ -1,5 +1,5 @@
 // The load of a tile slice's active elements from memory, the others of which become zero, and the store of them to memory
-// (document 01 §5).
+// (document 01 §5). Settings and buffers stay parameters, as perform.rt of execute says.
 ghost use Rattle.std.specs.Prelude.{◌≡◌, true, false, length};
 ghost use Rattle.settings.specs.Settings.{max_vector_bytes, lengths_of};
 ghost use Rattle.tiles.specs.Element.{bytes_of};
@@ -8,13 +8,14 @@ ghost use Rattle.moves.specs.Paired.{Paired, Governed, merged};
 ghost use Rattle.encoding.specs.Range.{AccessInRange};
 ghost use Rattle.semantics.specs.Steps.{Sized};
 ghost use Rattle.access.specs.Window.{Fits, blank, window_read, window_written};
-ghost use Rattle.access.specs.Promise.{slice_access, Accesses};
+ghost use Rattle.access.specs.Promise.{Accesses};
 
-use crate::reach::{Reach, prepare};
-use crate::window::{Window, read_window, write_window};
+use crate::reach::{Reach, find_reach};
+use crate::window::Window;
+use encoding::SliceAccess;
 use semantics::Refusal;
 use settings::Settings;
-use tiles::{ElementSize, Span, TileSlice, run_from};
+use tiles::{ElementSize, Span, run_from, slice_span};
 
 // Loads a slice of which memory has every active byte, by way of a vector.
 fn load_parts(
@@ -30,11 +31,11 @@ fn load_parts(
     ensures { za.new ≡ merged true (active p.now 0 (bytes_of size)) slice run (bytes_of size) (window_read w memory.now blank) za.old }
 {
     let mut vector = [0u8; Settings::MAX_VECTOR_BYTES as usize];
-    read_window(&mut vector, memory, w);
+    w.read(memory, &mut vector);
     moves::replace_partly(za, slice, &vector, run, p, size);
 }
 
-// The same for a store: what it does not write goes back as it was.
+// The same for a store: what it does not write goes back as it was. The two differ in which buffer they write, and in how (`merge`, `replace_partly`).
 fn store_parts(
     memory: &mut [u8],
     w: Window,
@@ -48,53 +49,46 @@ fn store_parts(
     ensures { memory.new ≡ window_written w (merged false (active p.now 0 (bytes_of size)) run slice (bytes_of size) za.now (window_read w memory.old blank)) memory.old }
 {
     let mut vector = [0u8; Settings::MAX_VECTOR_BYTES as usize];
-    read_window(&mut vector, memory, w);
+    w.read(memory, &mut vector);
     moves::merge(&mut vector, run, za, slice, p, size);
-    write_window(memory, &vector, w);
+    w.write(&vector, memory);
 }
 
-// A load, or a store. Nothing is written unless every active byte is in memory.
+// A load, or a store. Nothing is written unless every active byte is in memory. One function with a switch, so that what both ask first has one caller
+// and is inlined (docs/DECISIONS.md).
 pub fn access(
     stores: bool,
-    slice: TileSlice,
-    pg: u8,
-    rn: u8,
-    rm: u8,
+    o: SliceAccess,
     settings: Settings,
     x: &[u64],
     p: &[u8],
     za: &mut [u8],
     memory: &mut [u8],
 ) -> Result<(), Refusal>
-    requires { Sized settings (length x.now) (lengths_of settings).z (length p.now) (length za.old) (length memory.old) × AccessInRange (slice_access slice pg rn rm) }
-    ensures { Accesses settings stores (slice_access slice pg rn rm) x.now p.now za.old memory.old result za.new memory.new }
+    requires { Sized settings (length x.now) (lengths_of settings).z (length p.now) (length za.old) (length memory.old) × AccessInRange o }
+    ensures { Accesses settings stores o x.now p.now za.old memory.old result za.new memory.new }
 {
-    let size = slice.size;
-    let ready = prepare(slice, pg, rn, rm, settings, x, p, memory.len());
-    let span = ready.slice;
-    let base = ready.predicate;
-    let end = base + settings.vector_bytes as usize / 8;
-    let governing = &p[base..end];
-    let reach = ready.reach;
+    let size = o.slice.size;
+    let governing = moves::governing_bytes(o.pg, settings, p);
+    let reach = find_reach(size, o.rn, o.rm, settings, x, governing, memory.len())?;
+    let slice = slice_span(o.slice, settings, x);
     match reach {
         Reach::Whole(at) => {
             let vector = run_from(at, settings, size);
             if stores {
-                moves::merge(memory, vector, za, span, governing, size);
+                moves::merge(memory, vector, za, slice, governing, size);
             } else {
-                moves::replace(za, span, memory, vector, governing, size);
+                moves::replace(za, slice, memory, vector, governing, size);
             }
-            Ok(())
         }
-        Reach::Parts(w) => {
+        Reach::Parts(window) => {
             let run = run_from(0, settings, size);
             if stores {
-                store_parts(memory, w, za, span, run, governing, size);
+                store_parts(memory, window, za, slice, run, governing, size);
             } else {
-                load_parts(za, span, memory, w, run, governing, size);
+                load_parts(za, slice, memory, window, run, governing, size);
             }
-            Ok(())
         }
-        Reach::Refused(refusal) => Err(refusal),
     }
+    Ok(())
 }

@@ -1,19 +1,25 @@
 -- Laws of specs/Count.antt.
 -- Assumes nothing.
-use mathlib.Core.Path.{◌≡◌, ap, ◌∙◌}
+use mathlib.Core.Path.{◌≡◌, refl, ap, ◌∙◌}
 use Prim.Native.Nat.{ℕ, zero, suc, ◌+◌, ◌*◌, ◌≤◌}
 use native.Mathlib.Nat.{zero-add, add-zero, add-suc, add_assoc, add-mul, one-mul}
 use native.Mathlib.Omega.{arith}
 use Rattle.encoding.specs.Codec.{decode_of}
-use Rattle.encoding.specs.declared.operation.Decoded.{Decoded}
-use Rattle.encoding.specs.declared.operation.Decoded.TheVariants.{Done, BadLevel, Undecodable}
+use mir.Val.{bool_byte}
+use Rattle.std.proofs.Common.{Result, Ok, Err, is_ok}
+use Rattle.encoding.specs.declared.operation.Operation.{Operation}
+use Rattle.encoding.specs.declared.operation.DecodeRefusal.{DecodeRefusal}
 use Rattle.count_words.specs.Count.{count_of, decode_count}
 
 -- a word counts at most once
-count_of_below : (d : Decoded) → count_of d ≤ 1
-count_of_below (Done o) = omega arith
-count_of_below BadLevel = omega arith
-count_of_below Undecodable = omega arith
+count_of_below : (d : Result Operation DecodeRefusal) → count_of d ≤ 1
+count_of_below (Ok o) = omega arith
+count_of_below (Err e) = omega arith
+
+-- code tests for an operation
+pub counted : (d : Result Operation DecodeRefusal) → bool_byte (is_ok d) ≡ count_of d
+counted (Ok o) = refl
+counted (Err e) = refl
 
 -- of n words at most n decode
 pub decode_count-below : (level first n : ℕ) → decode_count level first n ≤ n

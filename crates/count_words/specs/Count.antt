@@ -1,17 +1,16 @@
 -- How many words decode, and the line that says so. To believe: a word counts exactly if decoding it gives an operation.
 -- Assumes nothing.
-use Rattle.std.specs.Prelude.{ℕ, zero, suc, ◌+◌, ◌^◌, List, ◌++◌}
+use Rattle.std.specs.Prelude.{ℕ, zero, suc, ◌+◌, ◌^◌, List, ◌++◌, Result, Ok, Err}
 use Rattle.encoding.specs.Codec.{decode_of}
-use Rattle.encoding.specs.declared.operation.Decoded.{Decoded}
-use Rattle.encoding.specs.declared.operation.Decoded.TheVariants.{Done, BadLevel, Undecodable}
+use Rattle.encoding.specs.declared.operation.Operation.{Operation}
+use Rattle.encoding.specs.declared.operation.DecodeRefusal.{DecodeRefusal}
 use Rattle.text.specs.Digits.{decimal_of}
 use Rattle.text.specs.Line.{space, newline}
 
 -- 1 for a word that decoded, 0 for a refusal
-abbrev pub count_of : Decoded → ℕ
-count_of (Done o) = 1
-count_of BadLevel = 0
-count_of Undecodable = 0
+abbrev pub count_of : Result Operation DecodeRefusal → ℕ
+count_of (Ok o) = 1
+count_of (Err e) = 0
 
 -- how many of the n words from `first` on decode at a level
 unfoldable pub decode_count : ℕ → ℕ → ℕ → ℕ

@@ -4,25 +4,13 @@
 
 ghost use Rattle.std.specs.Prelude.{◌≡◌, ◌*◌, ◌^◌};
 ghost use Rattle.text.specs.Line.{Puts};
-ghost use Rattle.count_words.specs.Count.{count_of, decode_count, line_of};
+ghost use Rattle.count_words.specs.Count.{decode_count, line_of};
 
-use encoding::Decoded;
 use settings::Settings;
 use std::io;
 
 // The words that have the same top eight bits.
 const BLOCK: u32 = 16777216;
-
-// 1 for a word that decoded, 0 for a refusal.
-fn counted(decoded: Decoded) -> u64
-    ensures { result ≡ count_of decoded }
-{
-    match decoded {
-        Decoded::Done(_) => 1,
-        Decoded::BadLevel => 0,
-        Decoded::Undecodable => 0,
-    }
-}
 
 // How many of the words with these top eight bits decode at a level. Words are counted in such
 // blocks because a compiled loop over one tests those bits only once.
@@ -31,7 +19,7 @@ fn count_block(top: u8, level: u64) -> u64
 {
     let mut found: u64 = 0;
     for low in 0..BLOCK {
-        found += counted(decoder::decode(top as u32 * BLOCK + low, level));
+        found += decoder::decode(top as u32 * BLOCK + low, level).is_ok() as u64;
     }
     found
 }

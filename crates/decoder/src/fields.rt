@@ -45,14 +45,15 @@ pub fn array_in(registers: RegisterCount, word: u32) -> ArrayToVectors
 {
     let first = (word % 32) as u8;
     ArrayToVectors {
-        registers: registers,
+        registers,
         rv: (8 + word / 8192 % 4) as u8,
         off: (word / 32 % 8) as u8,
         zd: first,
     }
 }
 
-// An array move zeroes what it moves.
+// An array move zeroes what it moves. This and `stores_in` stay two: docs/PROOFS.md names both, and one function of a bit's number would be no
+// shorter.
 pub fn zeroes_in(word: u32) -> bool
     ensures { result ≡ eqb (bits_at 9 1 word) 1 }
 {
@@ -85,7 +86,7 @@ fn slice_in(size: ElementSize, word: u32, x: u32) -> TileSlice
 {
     let doublings = size.doublings();
     TileSlice {
-        size: size,
+        size,
         direction: Direction::of_number(word / 32768 % 2),
         index: (12 + word / 8192 % 4) as u8,
         tile: ((x % 16) >> (4 - doublings)) as u8,

@@ -2,6 +2,7 @@
 -- Assumes nothing.
 use Rattle.std.specs.Prelude.{ℕ, Bool, ◌&&◌, leb, ltb}
 use Rattle.tiles.specs.Element.{bytes_of}
+use Rattle.tiles.specs.declared.slice.TileSlice.{TileSlice}
 use Rattle.tiles.specs.declared.element.ElementSize.{ElementSize}
 use Rattle.tiles.specs.declared.element.ElementSize.TheVariants.{Bits8, Bits16, Bits32, Bits64, Bits128}
 
@@ -14,5 +15,5 @@ offset_count Bits64 = 2
 offset_count Bits128 = 1
 
 -- a word can name the slice: index register, tile and offset are in range
-abbrev pub slice_held : ElementSize → ℕ → ℕ → ℕ → Bool
-slice_held m index tile offset = leb 12 index && leb index 15 && ltb tile (bytes_of m) && ltb offset (offset_count m)
+abbrev pub slice_held : TileSlice → Bool
+slice_held o = leb 12 o.index && leb o.index 15 && ltb o.tile (bytes_of o.size) && ltb o.offset (offset_count o.size)

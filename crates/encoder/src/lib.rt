@@ -2,128 +2,99 @@
 // outside its range.
 #![tactic(auto)]
 
-ghost use Rattle.std.specs.Prelude.{◌≡◌, true, ◌+◌, ◌*◌, ◌<◌};
+ghost use Rattle.std.specs.Prelude.{◌≡◌, true, ◌+◌, ◌*◌, ◌<◌, is_none};
+ghost use Rattle.std.specs.Option.{unwrap_or};
 ghost use Rattle.encoding.specs.Codec.{Encodes};
-ghost use Rattle.tiles.specs.Element.{bytes_of};
 ghost use Rattle.encoding.specs.Steps.{size_bits, from_tile_move, from_tile_bits, array_move, array_bits, access_move, access_bits};
 ghost use Rattle.encoder.specs.Steps.{offset_count, slice_held};
 
-use encoding::{Encoded, Operation, RegisterCount, SliceAccess};
-use tiles::{Direction, ElementSize};
+use encoding::{
+    ArrayToVectors, Operation, OutOfRange, PredicatedTileToVector, RegisterCount, SliceAccess,
+    TileToVector, VectorToTile,
+};
+use tiles::{ElementSize, TileSlice};
 
-// The word of an operation. Its parts go on as plain numbers to the function of its kind.
-pub fn encode(operation: Operation) -> Encoded
+// The word of an operation.
+pub fn encode(operation: Operation) -> Result<u32, OutOfRange>
     ensures { Encodes operation result }
 {
     match operation {
-        Operation::MovaToTile(o) => {
-            let s = o.slice;
-            let size = s.size;
-            let direction = s.direction;
-            encode_to_tile(size, direction, s.index, o.pg, o.zn, s.tile, s.offset)
+        Operation::MovaToTile(o) => encode_to_tile(o),
+        Operation::MovazFromTile(o) => encode_from_tile(None, o),
+        Operation::MovaFromArray(o) => encode_array(false, o),
+        Operation::MovazFromArray(o) => encode_array(true, o),
+        Operation::St1(o) => encode_access(true, o),
+        Operation::MovaFromTile(PredicatedTileToVector { whole, pg }) => {
+            encode_from_tile(Some(pg), whole)
         }
-        Operation::MovazFromTile(o) => {
-            let s = o.slice;
-            let size = s.size;
-            let direction = s.direction;
-            encode_from_tile(true, 0, size, direction, s.index, s.tile, s.offset, o.zd)
-        }
-        Operation::MovaFromArray(o) => {
-            let registers = o.registers;
-            encode_array(false, registers, o.rv, o.off, o.zd)
-        }
-        Operation::MovazFromArray(o) => {
-            let registers = o.registers;
-            encode_array(true, registers, o.rv, o.off, o.zd)
-        }
-        Operation::St1(o) => encode_slice_access(true, o),
-        Operation::MovaFromTile(o) => {
-            let w = o.whole;
-            let s = w.slice;
-            let size = s.size;
-            let direction = s.direction;
-            encode_from_tile(
-                false, o.pg, size, direction, s.index, s.tile, s.offset, w.zd,
-            )
-        }
-        Operation::Ld1(o) => encode_slice_access(false, o),
+        Operation::Ld1(o) => encode_access(false, o),
     }
 }
 
-fn encode_to_tile(
-    size: ElementSize,
-    direction: Direction,
-    index: u8,
-    pg: u8,
-    zn: u8,
-    tile: u8,
-    offset: u8,
-) -> Encoded
-    ensures { Encodes (Operation.MovaToTile (record { slice = record { size = size; direction = direction; index = index; tile = tile; offset = offset }; pg = pg; zn = zn })) result }
+// A move to a tile.
+fn encode_to_tile(o: VectorToTile) -> Result<u32, OutOfRange>
+    ensures { Encodes (Operation.MovaToTile o) result }
 {
-    if !is_slice_held(size, index, tile, offset) {
-        return Encoded::OutOfRange;
+    let VectorToTile { slice, pg, zn } = o;
+    if !is_slice_held(slice) {
+        return Err(OutOfRange);
     }
     if 7 < pg {
-        return Encoded::OutOfRange;
+        return Err(OutOfRange);
     }
     if 31 < zn {
-        return Encoded::OutOfRange;
+        return Err(OutOfRange);
     }
-    Encoded::Word(
+    Ok(
         0xC0000000
-            + size_bits(size) * 65536
-            + direction.number() as u32 * 32768
-            + (index - 12) as u32 * 8192
+            + size_bits(slice.size) * 65536
+            + slice.direction.number() as u32 * 32768
+            + (slice.index - 12) as u32 * 8192
             + pg as u32 * 1024
             + zn as u32 * 32
-            + shared_bits(size, tile, offset),
+            + shared_bits(slice),
     )
 }
 
-// A move from a tile, with zeroing, and then no predicate, or under a predicate.
-fn encode_from_tile(
-    zeroes: bool,
-    pg: u8,
-    size: ElementSize,
-    direction: Direction,
-    index: u8,
-    tile: u8,
-    offset: u8,
-    zd: u8,
-) -> Encoded
-    requires { zeroes ≡ true → pg ≡ 0 }
-    ensures { Encodes (from_tile_move zeroes pg (record { slice = record { size = size; direction = direction; index = index; tile = tile; offset = offset }; zd = zd })) result }
+// A move from a tile, under a predicate, or without one, and then with zeroing. Moves to a tile, from one, loads and stores have functions of
+// their own, since each has its fields in other bits.
+fn encode_from_tile(predicate: Option<u8>, o: TileToVector) -> Result<u32, OutOfRange>
+    ensures { Encodes (from_tile_move (is_none predicate) (unwrap_or predicate 0) o) result }
 {
+    let TileToVector { slice, zd } = o;
+    let pg = predicate.unwrap_or(0);
     if 7 < pg {
-        return Encoded::OutOfRange;
+        return Err(OutOfRange);
     }
-    if !is_slice_held(size, index, tile, offset) {
-        return Encoded::OutOfRange;
+    if !is_slice_held(slice) {
+        return Err(OutOfRange);
     }
     if 31 < zd {
-        return Encoded::OutOfRange;
+        return Err(OutOfRange);
     }
-    Encoded::Word(
+    Ok(
         0xC0020000
-            + size_bits(size) * 65536
-            + direction.number() as u32 * 32768
-            + (index - 12) as u32 * 8192
-            + from_tile_bits(zeroes, pg) * 512
-            + shared_bits(size, tile, offset) * 32
+            + size_bits(slice.size) * 65536
+            + slice.direction.number() as u32 * 32768
+            + (slice.index - 12) as u32 * 8192
+            + from_tile_bits(predicate) * 512
+            + shared_bits(slice) * 32
             + zd as u32,
     )
 }
 
 // Bits 12:9 of a move from a tile: the predicate with bit 9 clear, or bit 9 alone.
-fn from_tile_bits(zeroes: bool, pg: u8) -> u32
-    requires { pg < 8 }
-    ensures { (result ≡ from_tile_bits zeroes pg) × (result < 16) }
+fn from_tile_bits(predicate: Option<u8>) -> u32
+    requires { unwrap_or predicate 0 < 8 }
+    ensures { (result ≡ from_tile_bits (is_none predicate) (unwrap_or predicate 0)) × (result < 16) }
 {
-    if zeroes { 1 } else { pg as u32 * 2 }
+    match predicate {
+        Some(pg) => pg as u32 * 2,
+        None => 1,
+    }
 }
 
-// Bits 12:8 of an array move.
+// Bits 12:8 of an array move. With zeroing or without is a bit of the word, and no two functions.
 fn array_bits(zeroes: bool, registers: RegisterCount) -> u32
     ensures { (result ≡ array_bits zeroes registers) × (result < 32) }
 {
@@ -133,25 +104,32 @@ fn array_bits(zeroes: bool, registers: RegisterCount) -> u32
     }
 }
 
-fn encode_array(zeroes: bool, registers: RegisterCount, rv: u8, off: u8, zd: u8) -> Encoded
-    ensures { Encodes (array_move zeroes (record { registers = registers; rv = rv; off = off; zd = zd })) result }
+// An array move, with or without zeroing.
+fn encode_array(zeroes: bool, o: ArrayToVectors) -> Result<u32, OutOfRange>
+    ensures { Encodes (array_move zeroes o) result }
 {
+    let ArrayToVectors {
+        registers,
+        rv,
+        off,
+        zd,
+    } = o;
     if rv < 8 {
-        return Encoded::OutOfRange;
+        return Err(OutOfRange);
     }
     if 11 < rv {
-        return Encoded::OutOfRange;
+        return Err(OutOfRange);
     }
     if 7 < off {
-        return Encoded::OutOfRange;
+        return Err(OutOfRange);
     }
     if 31 < zd {
-        return Encoded::OutOfRange;
+        return Err(OutOfRange);
     }
     if zd % registers.number() != 0 {
-        return Encoded::OutOfRange;
+        return Err(OutOfRange);
     }
-    Encoded::Word(
+    Ok(
         0xC0060000
             + (rv - 8) as u32 * 8192
             + array_bits(zeroes, registers) * 256
@@ -173,52 +151,31 @@ fn access_bits(stores: bool, size: ElementSize) -> u32
     }
 }
 
-// A store or a load.
-fn encode_slice_access(stores: bool, o: SliceAccess) -> Encoded
+// A store or a load: which of them is a bit of the word, and no two functions.
+fn encode_access(stores: bool, o: SliceAccess) -> Result<u32, OutOfRange>
     ensures { Encodes (access_move stores o) result }
 {
-    let s = o.slice;
-    let size = s.size;
-    let direction = s.direction;
-    encode_access(
-        stores, size, direction, s.index, o.pg, o.rn, o.rm, s.tile, s.offset,
-    )
-}
-
-// The same by its parts.
-fn encode_access(
-    stores: bool,
-    size: ElementSize,
-    direction: Direction,
-    index: u8,
-    pg: u8,
-    rn: u8,
-    rm: u8,
-    tile: u8,
-    offset: u8,
-) -> Encoded
-    ensures { Encodes (access_move stores (record { slice = record { size = size; direction = direction; index = index; tile = tile; offset = offset }; pg = pg; rn = rn; rm = rm })) result }
-{
-    if !is_slice_held(size, index, tile, offset) {
-        return Encoded::OutOfRange;
+    let SliceAccess { slice, pg, rn, rm } = o;
+    if !is_slice_held(slice) {
+        return Err(OutOfRange);
     }
     if 7 < pg {
-        return Encoded::OutOfRange;
+        return Err(OutOfRange);
     }
     if 31 < rn {
-        return Encoded::OutOfRange;
+        return Err(OutOfRange);
     }
     if 31 < rm {
-        return Encoded::OutOfRange;
+        return Err(OutOfRange);
     }
-    Encoded::Word(
-        access_bits(stores, size) * 2097152
+    Ok(
+        access_bits(stores, slice.size) * 2097152
             + rm as u32 * 65536
-            + direction.number() as u32 * 32768
-            + (index - 12) as u32 * 8192
+            + slice.direction.number() as u32 * 32768
+            + (slice.index - 12) as u32 * 8192
             + pg as u32 * 1024
             + rn as u32 * 32
-            + shared_bits(size, tile, offset),
+            + shared_bits(slice),
     )
 }
 
@@ -249,9 +206,16 @@ fn offset_count(size: ElementSize) -> u8
 }
 
 // Whether a word can name the slice: an index register of 12 to 15, a tile that there is, an offset that fits its bits.
-fn is_slice_held(size: ElementSize, index: u8, tile: u8, offset: u8) -> bool
-    ensures { result ≡ slice_held size index tile offset }
+fn is_slice_held(slice: TileSlice) -> bool
+    ensures { result ≡ slice_held slice }
 {
+    let TileSlice {
+        size,
+        index,
+        tile,
+        offset,
+        ..
+    } = slice;
     if index < 12 {
         return false;
     }
@@ -264,10 +228,16 @@ fn is_slice_held(size: ElementSize, index: u8, tile: u8, offset: u8) -> bool
     offset < offset_count(size)
 }
 
-// The four bits that a tile and an offset in range share.
-fn shared_bits(size: ElementSize, tile: u8, offset: u8) -> u32
-    requires { (tile < bytes_of size) × (offset < offset_count size) }
-    ensures { (result ≡ tile * offset_count size + offset) × (result < 16) }
+// The four bits that the tile and the offset of a slice that a word can name share.
+fn shared_bits(slice: TileSlice) -> u32
+    requires { slice_held slice ≡ true }
+    ensures { (result ≡ slice.tile * offset_count slice.size + slice.offset) × (result < 16) }
 {
-    (tile as u32) * (offset_count(size) as u32) + (offset as u32)
+    let TileSlice {
+        size,
+        tile,
+        offset,
+        ..
+    } = slice;
+    tile as u32 * offset_count(size) as u32 + offset as u32
 }

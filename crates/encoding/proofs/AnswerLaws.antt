@@ -1,5 +1,6 @@
 -- Laws of the answers in specs/Codec.antt: which numbers they have, and what a refusal carries; and that each promise can be met.
 -- Assumes nothing.
+use Rattle.std.specs.Prelude.{Ok, Err}
 use Prim.Native.Nat.{ℕ, ◌<◌}
 use mathlib.Core.Path.{◌≡◌, refl, ap}
 use mathlib.Core.Bool.{Bool, true, false, cond}
@@ -14,17 +15,16 @@ use Rattle.general.proofs.BoolLaws.{by_test}
 use Rattle.settings.specs.Answer.{answer_with, done, bad_settings, undecodable, out_of_range}
 use Rattle.settings.specs.Settings.{max_level}
 use Rattle.encoding.specs.Answer.{decoded_answer, unflattened_answer}
-use Rattle.encoding.specs.Flat.{flat_of, operation_of, same_numbers, unflatten_of}
+use Rattle.encoding.specs.Flat.{flat_of, operation_of, same_numbers, unflatten_of, no_word}
 use Rattle.encoding.specs.Row.{Row}
 use Rattle.encoding.specs.Table.{table}
 use Rattle.encoding.specs.Word.{fits, numbers_in, encodable, word_of}
 use Rattle.encoding.specs.Codec.{row_of_word, row_of_numbers, decode_as, decode_of, decode_answer_as, decode_answer, Decodes, encode_answer_as, encode_answer, unflatten_answer, Unflattens}
 use Rattle.encoding.specs.Claims.{Answered}
-use Rattle.encoding.specs.declared.operation.Decoded.TheVariants.{Done, BadLevel, Undecodable}
-use Rattle.encoding.specs.declared.operation.Unflattened.TheVariants as unflattened
 use Rattle.encoding.proofs.FlatLaws.{same_equal}
 use Rattle.encoding.proofs.NumbersLaws.{row_numbers}
 use Rattle.encoding.proofs.TableLaws.{first_found}
+use Rattle.encoding.specs.declared.operation.DecodeRefusal.TheVariants.{BadLevel, Undecodable}
 
 -- ---- decoding
 
@@ -68,11 +68,11 @@ unfolding decode_of decode_answer row_of_word
 decodes w level = record { equal = refl; answers = by_level (ltb max_level level) (row_of_word w) refl }
   where
     by_row : (b : Bool) (r : Row) → flat_of (operation_of (numbers_in r w)) ≡ numbers_in r w →
-        decoded_answer (cond b (Done (operation_of (numbers_in r w))) Undecodable) ≡ cond b (answer_with done (numbers_in r w)) (answer_with undecodable [])
+        decoded_answer (cond b (Ok (operation_of (numbers_in r w))) (Err Undecodable)) ≡ cond b (answer_with done (numbers_in r w)) (answer_with undecodable [])
     by_row true r e = ap (answer_with done) e
     by_row false r e = refl
 
-    by_level : (b : Bool) (f : Option Row) → row_of_word w ≡ f → decoded_answer (cond b BadLevel (decode_as w level f)) ≡ cond b (answer_with bad_settings []) (decode_answer_as w level f)
+    by_level : (b : Bool) (f : Option Row) → row_of_word w ≡ f → decoded_answer (cond b (Err BadLevel) (decode_as w level f)) ≡ cond b (answer_with bad_settings []) (decode_answer_as w level f)
     by_level true f e = refl
     by_level false none e = refl
     by_level false (some r) e = by_row (leb r.level level) r (row_numbers r w (first_found (λ s. fits s w) table r e).listed)
@@ -106,6 +106,6 @@ unfolding unflatten_of unflatten_answer
 unflattens ns l = record { equal = refl; answers = go (by_test (same_numbers (flat_of (operation_of ns)) ns)); eleven = l }
   where
     go : (same_numbers (flat_of (operation_of ns)) ns ≡ true) ⊎ (same_numbers (flat_of (operation_of ns)) ns ≡ false) →
-        unflattened_answer (cond (same_numbers (flat_of (operation_of ns)) ns) (unflattened.Done (operation_of ns)) unflattened.OutOfRange) ≡ cond (same_numbers (flat_of (operation_of ns)) ns) (answer_with done ns) (answer_with out_of_range [])
+        unflattened_answer (cond (same_numbers (flat_of (operation_of ns)) ns) (Ok (operation_of ns)) (Err no_word)) ≡ cond (same_numbers (flat_of (operation_of ns)) ns) (answer_with done ns) (answer_with out_of_range [])
     go (inl t) = rw t (ap (answer_with done) (same_equal (flat_of (operation_of ns)) ns t))
     go (inr t) = rw t

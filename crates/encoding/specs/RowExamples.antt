@@ -2,10 +2,10 @@
 -- one where the first cannot tell two fields apart. So a field at another place, of another width or scale, or exchanged with another one is refused, and
 -- so is a row at another level. To believe: the lists. The numbers are the second program's (rust/second), which has no table.
 -- Assumes nothing.
-use Rattle.std.specs.Prelude.{ℕ, ◌-◌, ◌≡◌, List, [], ◌∷◌, map, replicate}
+use Rattle.std.specs.Prelude.{ℕ, ◌-◌, ◌≡◌, List, [], ◌∷◌, map, replicate, Err}
 use Rattle.settings.specs.Answer.{answer_with}
 use Rattle.encoding.specs.Codec.{decode_of, decode_answer}
-use Rattle.encoding.specs.declared.operation.Decoded.TheVariants.{BadLevel}
+use Rattle.encoding.specs.declared.operation.DecodeRefusal.TheVariants.{BadLevel}
 
 -- a word, the least level at which it decodes, and its numbers
 pub record RowExample : Type 0 where
@@ -79,4 +79,4 @@ pub record RowsHold : Type 0 where
   pub below : map (λ (e : RowExample). decode_answer e.word (e.level - 1)) row_examples ≡ map (λ (e : RowExample). answer_with 3 []) row_examples
   pub above : map (decode_answer 0xC080ACA9) (4 ∷ 5 ∷ 255 ∷ 256 ∷ 0x1_0000_0003 ∷ []) ≡ replicate 5 (answer_with 1 [])
   pub above_none : map (decode_answer 0xC0000010) (4 ∷ 5 ∷ 255 ∷ 256 ∷ 0x1_0000_0003 ∷ []) ≡ replicate 5 (answer_with 1 [])
-  pub above_decoded : map (decode_of 0xC080ACA9) (4 ∷ 5 ∷ 255 ∷ 256 ∷ 0x1_0000_0003 ∷ []) ≡ replicate 5 BadLevel
+  pub above_decoded : map (decode_of 0xC080ACA9) (4 ∷ 5 ∷ 255 ∷ 256 ∷ 0x1_0000_0003 ∷ []) ≡ replicate 5 (Err BadLevel)

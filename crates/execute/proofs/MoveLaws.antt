@@ -4,7 +4,7 @@ use Prim.Native.Nat.{ℕ, ◌+◌, ◌*◌, ◌/◌, ◌%◌, ◌≤◌, ◌<◌
 use mathlib.Core.Path.{◌≡◌, refl, sym, ap, ap₂, ◌∙◌}
 use mathlib.Core.Bool.{Bool, true, false, cond}
 use mathlib.Core.List.{List, [], ◌∷◌}
-use native.Mathlib.Nat.{add-zero, mod-lt, div-lt_iff_lt-mul}
+use native.Mathlib.Nat.{mod-lt, div-lt_iff_lt-mul}
 use native.Mathlib.Omega.{arith}
 use lib.Arith.{digits_div, digits_mod}
 use lib.ListN.{length, get_or}
@@ -26,10 +26,10 @@ use Rattle.tiles.proofs.Claims.{groups_differ}
 use Rattle.tiles.proofs.LengthLaws.{elements_power}
 use Rattle.tiles.proofs.SpanLaws.{Spanned, vector_spanned, slice_spanned}
 use Rattle.tiles.proofs.TileLaws.{digits_same}
-use Rattle.moves.specs.Paired.{Paired, Governed, value_at, merged}
+use Rattle.moves.specs.Paired.{Paired, Governed, governing_part, value_at, merged}
 use Rattle.moves.proofs.BlockLaws.{written_none, written_block}
 use Rattle.moves.proofs.SpanLaws.{spanned_paired, spanned_written, spanned_merged}
-use Rattle.moves.proofs.PredicateLaws.{part, part_within, part_governs, part_active}
+use Rattle.moves.proofs.PredicateLaws.{part_governs, part_active}
 use Rattle.encoding.specs.Flat.{registers_of}
 use Rattle.encoding.specs.Range.{SliceInRange}
 use Rattle.encoding.specs.Steps.{array_move}
@@ -70,15 +70,6 @@ group_list B r w {first} {apart} e f =
     let fourth : first + 2 * apart + apart ≡ first + 3 * apart = omega arith in
     rw (third, fourth, f, e)
 
--- registers are at least two, and two where they are not four
-some_registers : (r : RegisterCount) → 2 ≤ registers_of r
-some_registers Two = omega arith
-some_registers Four = omega arith
-
-pub two_registers : (r : RegisterCount) → (registers_of r ≡ 4 → ⊥) → registers_of r ≡ 2
-two_registers Two h = refl
-two_registers Four h = absurd (h refl)
-
 module _ (s : Settings) where
   abbrev B : ℕ
   B = s.vector_bytes
@@ -114,22 +105,16 @@ module _ (s : Settings) where
     pub zeroed_slice : {za' : List ℕ} → za' ≡ scatter (span_at slice m) all zeros (register.count * m) za → za' ≡ scatter (slice_byte s x o) all zeros B za
     zeroed_slice e = e ∙ rw (slice_is.places, register_is.bytes)
 
-    -- under predicate pg, whose bytes start at `start`
-    module _ (pg : ℕ) (below : pg < 8) {start : ℕ} (starts : start ≡ pg * (S / 8)) where
-      abbrev bits : List ℕ
-      bits = part s sized.vectors p sized.p pg (omega arith) start starts
-
-      pub predicate_within : start + B / 8 ≤ length p
-      predicate_within = part_within s sized.vectors p sized.p pg (omega arith) start starts
-
+    -- under predicate pg, whose bytes for a vector are these
+    module _ (pg : ℕ) (below : pg < 8) {bits : List ℕ} (lends : bits ≡ governing_part s pg p) where
       pub slice_governed : Governed slice m bits
-      slice_governed = part_governs s sized.vectors p sized.p pg (omega arith) start starts slice m slice_is.bytes
+      slice_governed = rw lends (part_governs s sized.vectors p sized.p pg (omega arith) _ refl slice m slice_is.bytes)
 
       pub register_governed : Governed register m bits
-      register_governed = part_governs s sized.vectors p sized.p pg (omega arith) start starts register m register_is.bytes
+      register_governed = rw lends (part_governs s sized.vectors p sized.p pg (omega arith) _ refl register m register_is.bytes)
 
       same_active : (k : ℕ) → k < B → active bits 0 m k ≡ active_under s p pg o k
-      same_active k w = part_active s sized.vectors p sized.p pg (omega arith) start starts m k w ∙ rw starts
+      same_active k w = rw lends (part_active s sized.vectors p sized.p pg (omega arith) _ refl m k w)
 
       pub merged_to : {za' : List ℕ} → za' ≡ merged false (active bits 0 m) slice register m z za → za' ≡ scatter (slice_byte s x o) (active_under s p pg o) (λ (k : ℕ). get_or z (register_byte s v k) 0) B za
       merged_to = spanned_merged slice_is register_is _ _ z za same_active
@@ -178,7 +163,7 @@ module _ (s : Settings) where
     abbrev r : ℕ
     r = registers_of registers
 
-    taken_none : GroupTaken s zeroes zd g z za 0 z za
+    pub taken_none : GroupTaken s zeroes zd g z za 0 z za
     taken_none = record { copied = (written_none _ _ _ z B).1; zeroed = go zeroes }
       where
         go : (b : Bool) → za ≡ cond b (scatter (group_at S B g) all zeros (0 * B) za) za
@@ -234,19 +219,6 @@ module _ (s : Settings) where
           go : (b : Bool) → za₁ ≡ cond b (scatter (group_at S B g) all zeros (n * B) za) za → za₂ ≡ cond b (scatter (onwards (get_or g n 0 * S)) all zeros B za₁) za₁ → za₂ ≡ cond b (scatter (group_at S B g) all zeros ((n + 1) * B) za) za
           go true e f = (written_block _ _ _ za n B _ _ _ e (λ i v. (refl, vector_place i v, refl)) f).1
           go false e f = f ∙ e
-
-    -- the first, and the first two
-    pub first_ready : Sized s 32 (length z) (lengths_of s).p (length za) 0 × (zd < 32) × (get_or g 0 0 < B)
-    first_ready = rw (add-zero zd) at (vector_ready 0 (omega (arith, some_registers registers)) taken_none)
-
-    first_taken : {z₁ za₁ : List ℕ} → TakesVector s zeroes zd (get_or g 0 0) z za z₁ za₁ → GroupTaken s zeroes zd g z za 1 z₁ za₁
-    first_taken w = one_more 0 (omega (arith, some_registers registers)) taken_none (rw (← add-zero zd) at w)
-
-    pub second_ready : {z₁ za₁ : List ℕ} → TakesVector s zeroes zd (get_or g 0 0) z za z₁ za₁ → Sized s 32 (length z₁) (lengths_of s).p (length za₁) 0 × (zd + 1 < 32) × (get_or g 1 0 < B)
-    second_ready w = vector_ready 1 (some_registers registers) (first_taken w)
-
-    pub two_taken : {z₁ za₁ z₂ za₂ : List ℕ} → TakesVector s zeroes zd (get_or g 0 0) z za z₁ za₁ → TakesVector s zeroes (zd + 1) (get_or g 1 0) z₁ za₁ z₂ za₂ → GroupTaken s zeroes zd g z za 2 z₂ za₂
-    two_taken w v = one_more 1 (some_registers registers) (first_taken w) v
 
   pub taken_from_array : (x z p za : List ℕ) (zeroes : Bool) (o : ArrayToVectors) {g z' za' : List ℕ} → g ≡ group_in s x o → GroupTaken s zeroes o.zd g z za (registers_of o.registers) z' za' → Moves s (array_move zeroes o) x z p za z' za'
   unfolding scatter writes_of values_of effect_of

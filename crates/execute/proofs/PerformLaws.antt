@@ -15,8 +15,6 @@ use Rattle.encoding.specs.Steps.{array_move, access_move}
 use Rattle.encoding.specs.declared.operation.ArrayToVectors.{ArrayToVectors}
 use Rattle.encoding.specs.declared.operation.SliceAccess.{SliceAccess}
 use Rattle.encoding.specs.declared.operation.Operation.{Operation}
-use Rattle.encoding.specs.declared.operation.Decoded.{Decoded}
-use Rattle.encoding.specs.declared.operation.Decoded.TheVariants as decoded
 use Rattle.semantics.specs.declared.answer.Refusal.{Refusal}
 use Rattle.semantics.specs.declared.answer.Refusal.TheVariants.{StreamingOff, ZaOff}
 use Rattle.semantics.specs.Answer.{executed_answer}
@@ -25,6 +23,7 @@ use Rattle.semantics.specs.Execute.{guard, buffers_answer, operation_answer, wor
 use Rattle.semantics.specs.Promise.{Executes}
 use Rattle.semantics.specs.Steps.{Sized, Performs, Moves}
 use Rattle.semantics.proofs.ExecuteLaws.{buffers_refused, answers_agree, SizedAt, sized_answer, operation_answer_lem}
+use Rattle.encoding.specs.declared.operation.DecodeRefusal.{DecodeRefusal}
 
 -- ---- what operations rely on
 
@@ -74,7 +73,7 @@ module _ (s : Settings) (w : ℕ) (t : State) where
   pub word_refuses : (r : Refusal) → SizedAt s t → word_answer s t.x t.p (length t.memory) (decode_of w s.level) ≡ Err r → Executes s w t (Err r) t
   word_refuses r h e = refused_executes r (sized_answer s w t h ∙ e)
 
-  module _ (o : Operation) (h : SizedAt s t) (dec : decode_of w s.level ≡ decoded.Done o) where
+  module _ (o : Operation) (h : SizedAt s t) (dec : decode_of w s.level ≡ Ok o) where
     rest : Result ⊤ Refusal
     rest = operation_answer s t.x t.p (length t.memory) o
 
@@ -96,5 +95,5 @@ module _ (s : Settings) (w : ℕ) (t : State) where
         let e : (execute_of s w t).answer ≡ r = operation_answer_lem s w t o h dec on za ∙ sym q.answer in
         executes r t' (sym e)
         (q.state ∙
-        ap (λ (d : Decoded). if_done r t (word_effect s d t)) (sym dec) ∙
+        ap (λ (d : Result Operation DecodeRefusal). if_done r t (word_effect s d t)) (sym dec) ∙
         ap (λ (a : Result ⊤ Refusal). if_done a t (word_effect s (decode_of w s.level) t)) (sym e))

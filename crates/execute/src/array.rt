@@ -1,4 +1,5 @@
-// Moves from the vectors of the ZA array to vector registers (document 01 §5).
+// Moves from the vectors of the ZA array to vector registers (document 01 §5). Settings and buffers stay parameters, as perform.rt of
+// execute says; P is among them, since the contract speaks of it.
 ghost use Rattle.std.specs.Prelude.{◌≡◌, true, ◌+◌, ◌/◌, ◌%◌, ◌^◌, ◌<◌, ◌≤◌, length};
 ghost use Rattle.settings.specs.Settings.{is_vector_length, lengths_of};
 ghost use Rattle.tiles.specs.Group.{group_of};
@@ -12,7 +13,7 @@ use encoding::{ArrayToVectors, RegisterCount};
 use settings::Settings;
 use tiles::{ElementSize, vector_span};
 
-// How far apart the vectors of a group are, which is also how many groups there are.
+// How far apart the vectors of a group are, which is also how many groups there are. Each number is divided by a constant, which is a shift.
 fn group_stride(vector_bytes: usize, registers: RegisterCount) -> usize
     ensures { result ≡ vector_bytes / registers_of registers }
 {
@@ -36,7 +37,8 @@ fn group_of(registers: RegisterCount, index: u64, offset: u8, vector_bytes: usiz
     [first, second, third, third + apart]
 }
 
-// Copies a vector of the ZA array to a vector register, and then sets it to zero if that is asked for.
+// Copies a vector of the ZA array to a vector register, and then sets it to zero if that is asked for: a bit of the word, known only when it runs, so
+// that a const parameter would only move the `if` to where one of two instances is called.
 fn take_vector(
     zeroes: bool,
     register: usize,
@@ -71,11 +73,8 @@ fn take_group(
     requires { Sized settings 32 (length z.old) (lengths_of settings).p (length za.old) 0 × (zd + registers_of registers ≤ 32) × InGroup settings.vector_bytes (registers_of registers) group }
     ensures { GroupTaken settings zeroes zd group z.old za.old (registers_of registers) z.new za.new }
 {
-    take_vector(zeroes, zd, group[0], settings, z, za);
-    take_vector(zeroes, zd + 1, group[1], settings, z, za);
-    if registers.number() == 4 {
-        take_vector(zeroes, zd + 2, group[2], settings, z, za);
-        take_vector(zeroes, zd + 3, group[3], settings, z, za);
+    for (i, vector) in group[..registers.number() as usize].iter().enumerate() {
+        take_vector(zeroes, zd + i, *vector, settings, z, za);
     }
 }
 

@@ -2,10 +2,10 @@
 ghost use Rattle.execute.specs.Promise.{ChecksBuffers};
 
 use semantics::Refusal;
-use settings::{Checked, Settings};
+use settings::{Lengths, Settings};
 
 // Whether the settings are valid, the buffers have the lengths that the settings fix, and
-// memory ends at 2^64 or before: Done, or why not. Lengths are in elements: numbers for x, bytes for the others.
+// memory ends at 2^64 or before: Ok, or why not. Lengths are in elements: numbers for x, bytes for the others.
 pub fn check_buffers(
     settings: Settings,
     x: usize,
@@ -16,20 +16,14 @@ pub fn check_buffers(
 ) -> Result<(), Refusal>
     ensures { ChecksBuffers settings x z p za memory result }
 {
-    let Checked::Valid = settings.check() else {
-        return Err(Refusal::BadSettings);
+    settings.check()?;
+    let given = Lengths {
+        x: x as u64,
+        z: z as u64,
+        p: p as u64,
+        za: za as u64,
     };
-    let lengths = settings.lengths();
-    if x as u64 != lengths.x {
-        return Err(Refusal::BadLengths);
-    }
-    if z as u64 != lengths.z {
-        return Err(Refusal::BadLengths);
-    }
-    if p as u64 != lengths.p {
-        return Err(Refusal::BadLengths);
-    }
-    if za as u64 != lengths.za {
+    if given != settings.lengths() {
         return Err(Refusal::BadLengths);
     }
     if 0 < memory {

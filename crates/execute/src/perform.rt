@@ -8,11 +8,12 @@ ghost use Rattle.semantics.specs.Promise.{Executes};
 ghost use Rattle.semantics.specs.Steps.{Performs, Sized};
 
 use crate::{array, tile};
-use decoder::{Class, Classified};
+use decoder::Class;
 use semantics::Refusal;
 use settings::Settings;
 
-// Decodes a word and performs its operation.
+// Decodes a word and performs its operation. The buffers stay parameters: as one struct, tried and as fast, this, `operate` and the loop of listings
+// would each have to promise that settings, X and P and what the struct borrows stay, which parameters say by their types.
 pub fn perform(
     settings: Settings,
     word: u32,
@@ -25,7 +26,7 @@ pub fn perform(
     requires { Sized settings (length x.now) (length z.old) (length p.now) (length za.old) (length memory.old) }
     ensures { Executes settings word (state_of x.now z.old p.now za.old memory.old) result (state_of x.now z.new p.now za.new memory.new) }
 {
-    let Classified::Done(class) = decoder::classify(word, settings.level) else {
+    let Some(class) = decoder::classify(word, settings.level) else {
         return Err(Refusal::Undecodable);
     };
     if !settings.streaming {
@@ -73,9 +74,7 @@ fn operate(
         Class::Access(size) => {
             let stores = decoder::stores_in(word);
             let o = decoder::access_in(size, word);
-            access::access(
-                stores, o.slice, o.pg, o.rn, o.rm, settings, x, p, za, memory,
-            )
+            access::access(stores, o, settings, x, p, za, memory)
         }
     }
 }

@@ -1,4 +1,6 @@
-// Moves between a vector register and a tile slice (document 01 §5).
+// Moves between a vector register and a tile slice (document 01 §5). They are three functions, since each is lent what it touches (and P, of which the contract
+// speaks), and only what it writes for writing: what they have in common is what they call. Settings and buffers stay parameters, as perform.rt of
+// execute says.
 ghost use Rattle.std.specs.Prelude.{length};
 ghost use Rattle.encoding.specs.Range.{ToTileInRange, FromTileInRange, PredicatedInRange};
 ghost use Rattle.encoding.specs.declared.operation.Operation.TheVariants.{MovaToTile, MovazFromTile, MovaFromTile};
@@ -6,7 +8,7 @@ ghost use Rattle.semantics.specs.Steps.{Sized, Moves};
 
 use encoding::{PredicatedTileToVector, TileToVector, VectorToTile};
 use settings::Settings;
-use tiles::{predicate_start, slice_span, vector_span};
+use tiles::{slice_span, vector_span};
 
 // Copies the active elements of a vector register to a slice of a tile.
 pub(crate) fn move_to_tile(
@@ -24,9 +26,8 @@ pub(crate) fn move_to_tile(
     let size = slice.size;
     let to = slice_span(slice, settings, x);
     let from = vector_span(operation.zn as usize, settings, size);
-    let base = predicate_start(operation.pg, settings);
-    let end = base + settings.vector_bytes as usize / 8;
-    moves::merge(za, to, z, from, &p[base..end], size);
+    let governing = moves::governing_bytes(operation.pg, settings, p);
+    moves::merge(za, to, z, from, governing, size);
 }
 
 // Moves a slice of a tile to a vector register; the slice is then zero.
@@ -65,7 +66,6 @@ pub(crate) fn move_from_tile(
     let size = slice.size;
     let from = slice_span(slice, settings, x);
     let to = vector_span(whole.zd as usize, settings, size);
-    let base = predicate_start(operation.pg, settings);
-    let end = base + settings.vector_bytes as usize / 8;
-    moves::merge(z, to, za, from, &p[base..end], size);
+    let governing = moves::governing_bytes(operation.pg, settings, p);
+    moves::merge(z, to, za, from, governing, size);
 }

@@ -8,39 +8,26 @@ ghost use Rattle.encoding.specs.Flat.{slice_flat, array_flat, flat_of, slice_of,
 ghost use Rattle.encoding.specs.Codec.{Unflattens, EncodesFlat};
 
 use encoding::{
-    ArrayToVectors, Encoded, Operation, PredicatedTileToVector, RegisterCount, SliceAccess,
-    TileToVector, Unflattened, VectorToTile,
+    ArrayToVectors, Operation, OutOfRange, PredicatedTileToVector, RegisterCount, SliceAccess,
+    TileToVector, VectorToTile,
 };
 use tiles::{Direction, ElementSize, TileSlice};
 
-// The eleven numbers of an operation.
+// The eleven numbers of an operation. A function, as `unflatten` is, and no From: docs/PROOFS.md names both, and operation and numbers are
+// types of other crates, so that no impl may stand here.
 pub fn flatten(operation: Operation) -> [u8; 11]
     ensures { result ≡ flat_of operation }
 {
     match operation {
-        Operation::MovaToTile(o) => {
-            let slice = o.slice;
-            slice_numbers(1, slice, o.pg, o.zn, 0, 0, 1)
-        }
-        Operation::MovazFromTile(o) => {
-            let slice = o.slice;
-            slice_numbers(2, slice, 0, o.zd, 0, 0, 1)
-        }
+        Operation::MovaToTile(o) => slice_numbers(1, o.slice, o.pg, o.zn, 0, 0, 1),
+        Operation::MovazFromTile(o) => slice_numbers(2, o.slice, 0, o.zd, 0, 0, 1),
         Operation::MovaFromArray(o) => array_numbers(3, o),
         Operation::MovazFromArray(o) => array_numbers(4, o),
-        Operation::St1(o) => {
-            let slice = o.slice;
-            slice_numbers(5, slice, o.pg, 0, o.rn, o.rm, 0)
+        Operation::St1(o) => slice_numbers(5, o.slice, o.pg, 0, o.rn, o.rm, 0),
+        Operation::MovaFromTile(PredicatedTileToVector { whole, pg }) => {
+            slice_numbers(6, whole.slice, pg, whole.zd, 0, 0, 1)
         }
-        Operation::MovaFromTile(o) => {
-            let whole = o.whole;
-            let slice = whole.slice;
-            slice_numbers(6, slice, o.pg, whole.zd, 0, 0, 1)
-        }
-        Operation::Ld1(o) => {
-            let slice = o.slice;
-            slice_numbers(7, slice, o.pg, 0, o.rn, o.rm, 0)
-        }
+        Operation::Ld1(o) => slice_numbers(7, o.slice, o.pg, 0, o.rn, o.rm, 0),
     }
 }
 
@@ -56,12 +43,10 @@ fn slice_numbers(
 ) -> [u8; 11]
     ensures { result ≡ slice_flat kind slice predicate vector base addend registers }
 {
-    let size = slice.size;
-    let direction = slice.direction;
     [
         kind,
-        size.bytes(),
-        direction.number(),
+        slice.size.bytes(),
+        slice.direction.number(),
         slice.tile,
         slice.offset,
         slice.index,
@@ -77,48 +62,32 @@ fn slice_numbers(
 fn array_numbers(kind: u8, o: ArrayToVectors) -> [u8; 11]
     ensures { result ≡ array_flat kind o }
 {
-    let registers = o.registers;
-    [
-        kind,
-        0,
-        0,
-        0,
-        o.off,
-        o.rv,
-        0,
-        o.zd,
-        0,
-        0,
-        registers.number(),
-    ]
+    let registers = o.registers.number();
+    [kind, 0, 0, 0, o.off, o.rv, 0, o.zd, 0, 0, registers]
 }
 
 // The operation that has these eleven numbers. OutOfRange where none has: for an unknown kind, size,
 // direction or number of registers, and for anything but 0 where the kind has no such number.
-pub fn unflatten(numbers: &[u8; 11]) -> Unflattened
+pub fn unflatten(numbers: &[u8; 11]) -> Result<Operation, OutOfRange>
     ensures { Unflattens numbers.now result }
 {
     let operation = operation_of(numbers);
-    let again = flatten(operation);
-    if check::same(&again, numbers) {
-        Unflattened::Done(operation)
+    if flatten(operation) == *numbers {
+        Ok(operation)
     } else {
-        Unflattened::OutOfRange
+        Err(OutOfRange)
     }
 }
 
 // The word of the operation that has these eleven numbers. OutOfRange where none has, or where no
 // word has its operation.
-pub fn encode_flat(numbers: &[u8; 11]) -> Encoded
+pub fn encode_flat(numbers: &[u8; 11]) -> Result<u32, OutOfRange>
     ensures { EncodesFlat numbers.now result }
 {
-    match unflatten(numbers) {
-        Unflattened::Done(operation) => encoder::encode(operation),
-        Unflattened::OutOfRange => Encoded::OutOfRange,
-    }
+    encoder::encode(unflatten(numbers)?)
 }
 
-// The operation that eleven numbers name, if they name one.
+// The operation that eleven numbers name, if they name one. Kinds are numbers here and in `flatten` alone: hosts in C have them so.
 fn operation_of(numbers: &[u8; 11]) -> Operation
     ensures { result ≡ operation_of numbers.now }
 {
@@ -146,7 +115,7 @@ fn slice_of(numbers: &[u8; 11]) -> TileSlice
 {
     TileSlice {
         size: ElementSize::of_bytes(numbers[1]),
-        direction: Direction::of_number(wide(numbers[2])),
+        direction: Direction::of_number(u32::from(numbers[2])),
         index: numbers[5],
         tile: numbers[3],
         offset: numbers[4],
@@ -185,10 +154,4 @@ fn slice_access_of(numbers: &[u8; 11]) -> SliceAccess
         rn: numbers[8],
         rm: numbers[9],
     }
-}
-
-fn wide(x: u8) -> u32
-    ensures { result ≡ x }
-{
-    x as u32
 }

@@ -1,5 +1,6 @@
 -- The theorems of specs/BesideShown.antt: that the calls are done is computed, that they may run between is by the laws.
 -- Assumes nothing.
+use Rattle.std.specs.Prelude.{Ok}
 use Prim.Native.Nat.{ℕ, suc, ◌*◌, ◌/◌}
 use mathlib.Core.Path.{◌≡◌, refl, sym}
 use mathlib.Core.List.{List, [], ◌∷◌, ◌++◌, map}
@@ -12,7 +13,6 @@ use Rattle.encoding.specs.Table.{table}
 use Rattle.encoding.specs.Codec.{row_of_word, decode_of}
 use Rattle.encoding.specs.declared.operation.Operation.{Operation}
 use Rattle.encoding.specs.declared.operation.Operation.TheVariants.{MovaToTile}
-use Rattle.encoding.specs.declared.operation.Decoded.TheVariants.{Done}
 use Rattle.encoding.specs.declared.operation.VectorToTile.{VectorToTile}
 use Rattle.tiles.specs.Element.{bytes_of}
 use Rattle.tiles.specs.Predicate.{bit, active}
@@ -30,7 +30,7 @@ use Rattle.laws.proofs.Shown.{numbered, refusals_shown}
 
 -- ---- operations that have no place in ZA
 
-all_may_run : (cs : List Call) (os : List Operation) → map decoded_of cs ≡ map Done os → Each Beside os → Each MayRun cs
+all_may_run : (cs : List Call) (os : List Operation) → map decoded_of cs ≡ map Ok os → Each Beside os → Each MayRun cs
 all_may_run [] os e b = tt
 all_may_run (c ∷ cs) [] e b = absurd (nil_cons (sym e))
 all_may_run (c ∷ cs) (o ∷ os) e b =
@@ -65,7 +65,7 @@ refused_shown za e = all_leave refused_calls (0 ∷ 1 ∷ 2 ∷ 3 ∷ 4 ∷ 5 �
 -- ---- moves with no active element
 
 -- no element of a move to a tile is active, as a test computes
-inactive_call_lem : (c : Call) (za : List ℕ) (o : VectorToTile) → decoded_of c ≡ Done (MovaToTile o) → least (λ e. bit c.p (o.pg * (stride_of c.settings / 8)) (e * bytes_of o.slice.size)) (c.settings.vector_bytes / bytes_of o.slice.size) ≡ none → LeavesZa c za
+inactive_call_lem : (c : Call) (za : List ℕ) (o : VectorToTile) → decoded_of c ≡ Ok (MovaToTile o) → least (λ e. bit c.p (o.pg * (stride_of c.settings / 8)) (e * bytes_of o.slice.size)) (c.settings.vector_bytes / bytes_of o.slice.size) ≡ none → LeavesZa c za
 inactive_call_lem c za o e n = inactive_leaves c za o e (least_none _ _ n)
 
 pub inactive_shown : InactiveShown

@@ -14,8 +14,8 @@ use Rattle.tiles.specs.declared.direction.Direction.{Direction}
 use Rattle.encoding.specs.declared.operation.RegisterCount.{RegisterCount}
 use Rattle.encoding.specs.declared.operation.RegisterCount.TheVariants.{Two, Four}
 use Rattle.encoding.specs.declared.operation.Operation.{Operation}
+use Rattle.encoding.specs.declared.operation.DecodeRefusal.{DecodeRefusal}
 use Rattle.encoding.specs.declared.operation.Operation.TheVariants.{MovaToTile, MovazFromTile, MovaFromArray, MovazFromArray, St1, MovaFromTile, Ld1}
-use Rattle.encoding.specs.declared.operation.Decoded.TheVariants.{Done}
 use Rattle.encoding.specs.Flat.{registers_of}
 use Rattle.encoding.proofs.RangeLaws.{decoded_in_range}
 use Rattle.general.specs.Scatter.{all}
@@ -38,7 +38,7 @@ use Rattle.laws.specs.Between.{LeavesZa, refused, idle, LeavesIsKept, BesideMayR
 use Rattle.laws.specs.Crossing.{Crosses}
 use Rattle.laws.proofs.CallLaws.{DoesCall, run_append}
 
-same_operation : {o o' : Operation} → Done o ≡ Done o' → o ≡ o'
+same_operation : {o o' : Operation} → ◌≡◌ {A = Result Operation DecodeRefusal} (Ok o) (Ok o') → o ≡ o'
 same_operation e = cc
 
 pub leaves_is_kept : LeavesIsKept
@@ -91,7 +91,7 @@ inactive_leaves c za o e h = go (ends c.settings c.word (state_with c za))
 -- ---- calls that write ZA
 
 -- a done call is done by its own operation
-done_does : (c : Call) (za : List ℕ) (o : Operation) → decoded_of c ≡ Done o → (outcome c za).answer ≡ Ok tt → DoesCall c za o
+done_does : (c : Call) (za : List ℕ) (o : Operation) → decoded_of c ≡ Ok o → (outcome c za).answer ≡ Ok tt → DoesCall c za o
 done_does c za o e a = go (ends c.settings c.word (state_with c za))
   where
     go : Ends c.settings c.word (state_with c za) → DoesCall c za o
@@ -99,7 +99,7 @@ done_does c za o e a = go (ends c.settings c.word (state_with c za))
     go (stays r n q) = absurd (refused_not_done r (sym n ∙ a))
 
 -- if its first place in ZA is there and is written, it does not leave ZA
-first_written : (c : Call) (za : List ℕ) (o : Operation) → decoded_of c ≡ Done o → (outcome c za).answer ≡ Ok tt → (0 < c.settings.vector_bytes → 0 < (writes_of c.settings (public_of (state_with c za)) o).za.count) → (writes_of c.settings (public_of (state_with c za)) o).za.on 0 ≡ true → LeavesZa c za → ⊥
+first_written : (c : Call) (za : List ℕ) (o : Operation) → decoded_of c ≡ Ok o → (outcome c za).answer ≡ Ok tt → (0 < c.settings.vector_bytes → 0 < (writes_of c.settings (public_of (state_with c za)) o).za.count) → (writes_of c.settings (public_of (state_with c za)) o).za.on 0 ≡ true → LeavesZa c za → ⊥
 first_written c za o q a there on (refused r e) = refused_not_done r (sym e ∙ a)
 first_written c za o q a there on (idle o' e h) =
     let d = done_does c za o q a in
@@ -161,7 +161,7 @@ others_some [] after c za e = rw e (omega arith)
 others_some (b ∷ before) after c za e = omega (arith, others_some before after c (za_after b za) e, others_later (moved b za) (moves (before ++ c ∷ after) (za_after b za)))
 
 -- no call that is done and moves neither way is a call of a crossing list
-other_stays_out : (S B : ℕ) (size : ElementSize) (d : Direction) (t : ℕ) (before after : List Call) (c : Call) (za : List ℕ) (o : Operation) → move_of c o ≡ other → decoded_of c ≡ Done o → (outcome c (run before za)).answer ≡ Ok tt → Crosses S B size d t (before ++ c ∷ after) za → ⊥
+other_stays_out : (S B : ℕ) (size : ElementSize) (d : Direction) (t : ℕ) (before after : List Call) (c : Call) (za : List ℕ) (o : Operation) → move_of c o ≡ other → decoded_of c ≡ Ok o → (outcome c (run before za)).answer ≡ Ok tt → Crosses S B size d t (before ++ c ∷ after) za → ⊥
 unfolding moved
 other_stays_out S B size d t before after c za o m e a h =
     let is-other : moved c (run before za) ≡ some other = ap (λ (r : Result ⊤ Refusal). if_done r none (decoded_move c (decoded_of c))) a ∙ ap (decoded_move c) e ∙ ap some m in

@@ -1,6 +1,7 @@
 -- The theorems of specs/Drawn.antt. The calls that the conclusion speaks of are found in the list by their moves, each of which is there once; the rest is
 -- the conclusion itself, and numbers.
 -- Assumes nothing.
+use Rattle.std.specs.Prelude.{Result, Ok}
 use Prim.Native.Nat.{ℕ, zero, suc, ◌+◌, ◌*◌, ◌-◌, ◌/◌, ◌%◌, ◌^◌, ◌<◌}
 use mathlib.Core.Path.{◌≡◌, refl, sym, ap, ◌∙◌, subst}
 use mathlib.Core.Bool.{Bool, true, false, cond, not, ◌&&◌}
@@ -24,8 +25,6 @@ use Rattle.tiles.specs.Tile.{byte_at, byte_of, Outside}
 use Rattle.tiles.specs.declared.element.ElementSize.TheVariants.{Bits32}
 use Rattle.tiles.specs.declared.direction.Direction.{Direction}
 use Rattle.tiles.specs.declared.direction.Direction.TheVariants.{Horizontal, Vertical}
-use Rattle.encoding.specs.declared.operation.Decoded.{Decoded}
-use Rattle.encoding.specs.declared.operation.Decoded.TheVariants as decoded
 use Rattle.settings.proofs.Claims.{is_five_lengths}
 use Rattle.semantics.specs.ExampleBuffers.{bytes_from, za_at}
 use Rattle.laws.specs.Calls.{Call, outcome, run, Move, moved, decoded_of, register_in, predicate_in, register_of, predicate_of}
@@ -38,6 +37,8 @@ use Rattle.laws.proofs.PhaseLaws.{occurrences_past}
 use Rattle.laws.proofs.Exhibit.{inward_decodes, outward_decodes, goes_in, comes_out}
 use Rattle.laws.proofs.Shown.{fitting_32, passes, row_ready, column_ready, rows_once, columns_once, list_shown}
 use Rattle.laws.proofs.Crossing.{crossing}
+use Rattle.encoding.specs.declared.operation.DecodeRefusal.{DecodeRefusal}
+use Rattle.encoding.specs.declared.operation.Operation.{Operation}
 
 -- ---- the call of a move
 
@@ -122,7 +123,7 @@ columns_by_choices S B size d t ins outs rows columns za first between last fits
     ap (λ (r : ℕ). get_or (outcome (c.column k hk).call (run (c.column k hk).before za)).state.z (r * S + (j * m + i)) 0) (sym register) ∙
     c.back k j i hk hj hi ∙
     ap (λ (x : Call). cond (bit x.p (predicate_of x * (S / 8)) (k * m)) (get_or x.z (register_of x * S + (k * m + i)) 0) content) row_is ∙
-    ap (λ (x : Decoded). cond (bit (ins j).p (predicate_in x * (S / 8)) (k * m)) (get_or (ins j).z (register_in x * S + (k * m + i)) 0) content) row_decodes
+    ap (λ (x : Result Operation DecodeRefusal). cond (bit (ins j).p (predicate_in x * (S / 8)) (k * m)) (get_or (ins j).z (register_in x * S + (k * m + i)) 0) content) row_decodes
   where
     m : ℕ
     m = bytes_of size
@@ -145,7 +146,7 @@ columns_by_choices S B size d t ins outs rows columns za first between last fits
         once_call (c.row j hj) row_place.before row_place.after (in_call j) row_place.place
         (goes_in S B size fits j (ins j) (run row_place.before za) (run_long row_place.before za ∙ long) d t tile (ready_in j hj))
 
-    row_decodes : decoded_of (in_call j) ≡ decoded.Done (inward size d t (ins j))
+    row_decodes : decoded_of (in_call j) ≡ Ok (inward size d t (ins j))
     row_decodes = inward_decodes S B size d t tile j (ins j) (ready_in j hj)
 
     -- the call of column k

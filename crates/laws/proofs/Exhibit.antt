@@ -26,9 +26,6 @@ use Rattle.tiles.specs.declared.element.ElementSize.{ElementSize}
 use Rattle.tiles.specs.declared.element.ElementSize.TheVariants.{Bits8, Bits16, Bits32, Bits64, Bits128}
 use Rattle.tiles.specs.declared.direction.Direction.{Direction}
 use Rattle.encoding.specs.declared.operation.Operation.{Operation}
-use Rattle.encoding.specs.declared.operation.Decoded.TheVariants as decoded
-use Rattle.encoding.specs.declared.operation.Encoded.{Encoded}
-use Rattle.encoding.specs.declared.operation.Encoded.TheVariants.{Word}
 use Rattle.encoding.proofs.CodecLaws.{level_of, encoded_decodes}
 use Rattle.encoder.specs.Steps.{offset_count}
 use Rattle.encoder.proofs.EncoderLaws.{to_tile_encodes, from_tile_encodes}
@@ -44,13 +41,14 @@ use Rattle.laws.specs.Exhibit.{Choice, inward, outward, word_for, call_by, cross
 use Rattle.laws.proofs.CallLaws.{CallEnds, moves_by, rests, call_ends, call_long, run_long}
 use Rattle.laws.proofs.PhaseLaws.{occurrences_here, occurrences_past}
 use Rattle.general.proofs.BoolLaws.{by_test}
+use Rattle.encoding.specs.declared.operation.OutOfRange.{OutOfRange}
 
 -- ---- words
 
 -- the word of an operation that encodes decodes to it from the level of its row on
-word_decodes : (o : Operation) (v level : ℕ) → Word v ≡ encode_of o → level_of (row_of_numbers (flat_of o)) ≤ level → level ≤ max_level → decode_of (word_for o) level ≡ decoded.Done o
+word_decodes : (o : Operation) (v level : ℕ) → Ok v ≡ encode_of o → level_of (row_of_numbers (flat_of o)) ≤ level → level ≤ max_level → decode_of (word_for o) level ≡ Ok o
 word_decodes o v level e m l =
-    subst (λ (w : ℕ). decode_of w level ≡ decoded.Done o) (ap (λ (x : Encoded). get_or (encoded_answer x).values 0 0) e) (encoded_decodes o v level (sym e) m l).1
+    subst (λ (w : ℕ). decode_of w level ≡ Ok o) (ap (λ (x : Result ℕ OutOfRange). get_or (encoded_answer x).values 0 0) e) (encoded_decodes o v level (sym e) m l).1
 
 -- which is 1 into a tile, 3 out of it
 inward_level : (size : ElementSize) (d : Direction) (t : ℕ) (h : Choice) → level_of (row_of_numbers (flat_of (inward size d t h))) ≡ 1
@@ -79,13 +77,13 @@ offsets_counted Bits128 = refl
 
 -- the words of ready choices
 module _ (S B : ℕ) (size : ElementSize) (d : Direction) (t : ℕ) (tile : t < bytes_of size) (k : ℕ) (h : Choice) where
-  pub inward_decodes : Ready 1 S B size k h → decoded_of (call_by (inward size d t) h) ≡ decoded.Done (inward size d t h)
+  pub inward_decodes : Ready 1 S B size k h → decoded_of (call_by (inward size d t) h) ≡ Ok (inward size d t h)
   inward_decodes ready =
       word_decodes (inward size d t h) _ h.settings.level
       (to_tile_encodes d h.index h.predicate h.register t h.offset size _ (omega (arith, offsets_counted size)) refl).equal
       (omega (arith, inward_level size d t h, ready.level)) ready.level.1
 
-  pub outward_decodes : Ready 3 S B size k h → decoded_of (call_by (outward size d t) h) ≡ decoded.Done (outward size d t h)
+  pub outward_decodes : Ready 3 S B size k h → decoded_of (call_by (outward size d t) h) ≡ Ok (outward size d t h)
   outward_decodes ready =
       word_decodes (outward size d t h) _ h.settings.level
       (from_tile_encodes d 0 h.index t h.offset h.register true size _ (omega (arith, offsets_counted size)) refl).equal
@@ -159,7 +157,7 @@ choices_exist least S B level size k index offset predicate register fits from u
 
 module _ (S B : ℕ) (size : ElementSize) (fits : Fitting B S) (k : ℕ) (h : Choice) (za : List ℕ) (long : length za ≡ S * S) where
   -- a call whose operation is never refused is done
-  call_done : (least : ℕ) → Ready least S B size k h → (o : Choice → Operation) → decoded_of (call_by o h) ≡ decoded.Done (o h) → operation_answer h.settings h.x h.p (length h.memory) (o h) ≡ Ok tt → moved (call_by o h) za ≡ some (move_of (call_by o h) (o h))
+  call_done : (least : ℕ) → Ready least S B size k h → (o : Choice → Operation) → decoded_of (call_by o h) ≡ Ok (o h) → operation_answer h.settings h.x h.p (length h.memory) (o h) ≡ Ok tt → moved (call_by o h) za ≡ some (move_of (call_by o h) (o h))
   unfolding moved
   call_done least ready o decodes ans =
       let c = call_by o h in

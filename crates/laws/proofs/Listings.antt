@@ -28,11 +28,12 @@ use Rattle.semantics.specs.Execute.{access_answer, answer_of, if_done, execute_o
 use Rattle.semantics.specs.ExampleBuffers.{za_at}
 use Rattle.semantics.specs.Run.{one_more, run_of}
 use Rattle.semantics.proofs.ExecuteLaws.{refused_not_done}
-use Rattle.listing.specs.declared.answer.Listed.{Listed}
-use Rattle.listing.specs.declared.answer.Listed.TheVariants.{BadListing, Ended}
+use Rattle.listing.specs.Answer.{as_listed}
+use Rattle.listing.specs.declared.answer.ListingRefusal.{ListingRefusal}
+use Rattle.listing.specs.declared.answer.ListingRefusal.TheVariants.{BadListing, Refused}
 use Rattle.listing.specs.Words.{word_at, words_from}
 use Rattle.listing.specs.Listing.{ListingOutcome, not_run, ended, buffers_checked, is_whole, allowed_in, listing_of}
-use Rattle.listing.proofs.ListingLaws.{unended}
+use Rattle.listing.proofs.ListingLaws.{unended, unended_listed, listed_done}
 use Rattle.listing.proofs.WordLaws.{length-words, words_at, take_words}
 use Rattle.laws.specs.Calls.{Call, run, moved, moves}
 use Rattle.laws.specs.Crossing.{occurrences, Crosses}
@@ -48,7 +49,7 @@ pub listing_is_calls : ListingIsCalls
 unfolding run listing_calls listing_of
 listing_is_calls s l n t = go (buffers_checked s t) (is_whole l)
   where
-    go : (c : Result ⊤ Refusal) (b : Bool) → run (if_done c [] (cond b (calls_of s (allowed_in l n) t) [])) t.za ≡ (if_done c (not_run (Ended c) t) (cond b (ended (run_of s (allowed_in l n) t)) (not_run BadListing t))).state.za
+    go : (c : Result ⊤ Refusal) (b : Bool) → run (if_done c [] (cond b (calls_of s (allowed_in l n) t) [])) t.za ≡ (if_done c (not_run (as_listed c) t) (cond b (ended (run_of s (allowed_in l n) t)) (not_run (Err BadListing) t))).state.za
     go (Ok _) true = run_is_calls s (allowed_in l n) t
     go (Ok _) false = refl
     go (Err r) b = refl
@@ -112,9 +113,14 @@ module _ (s : Settings) where
       go (Err r) h = omega arith
 
 -- words were run, or were refused before any was
-abbrev has_ended : Listed → Bool
-has_ended BadListing = false
-has_ended (Ended e) = true
+abbrev has_ended : Result ⊤ ListingRefusal → Bool
+has_ended (Err BadListing) = false
+has_ended (Err (Refused r)) = true
+has_ended (Ok _) = true
+
+ended_listed : (a : Result ⊤ Refusal) → has_ended (as_listed a) ≡ true
+ended_listed (Ok _) = refl
+ended_listed (Err r) = refl
 
 module _ (s : Settings) (l : List ℕ) (n : ℕ) (t : State) where
   -- the words that may run
@@ -148,18 +154,18 @@ module _ (s : Settings) (l : List ℕ) (n : ℕ) (t : State) where
   Are c cs o =
       ((k : ℕ) → k < length cs → get_or cs k (call_at s 0 t) ≡ call_at s (word_at l k) (o k).state) ×
       ((k : ℕ) → k < length cs → run (take k cs) t.za ≡ (o k).state.za) ×
-      ((o n).run.answer ≡ Ended (Ok tt) → length cs ≡ (o n).run.words) ×
-      ((r : Refusal) → c ≡ Ok tt → (o n).run.answer ≡ Ended (Err r) → length cs ≡ suc (o n).run.words) × ((r : Refusal) → c ≡ Err r → cs ≡ []) × ((o n).run.answer ≡ BadListing → cs ≡ [])
+      ((o n).run.answer ≡ Ok tt → length cs ≡ (o n).run.words) ×
+      ((r : Refusal) → c ≡ Ok tt → (o n).run.answer ≡ Err (Refused r) → length cs ≡ suc (o n).run.words) × ((r : Refusal) → c ≡ Err r → cs ≡ []) × ((o n).run.answer ≡ Err BadListing → cs ≡ [])
 
-  are : (c : Result ⊤ Refusal) (b : Bool) → Are c (if_done c [] (cond b (calls_of s (allowed_in l n) t) [])) (λ m. if_done c (not_run (Ended c) t) (cond b (ended (run_of s (allowed_in l m) t)) (not_run BadListing t)))
+  are : (c : Result ⊤ Refusal) (b : Bool) → Are c (if_done c [] (cond b (calls_of s (allowed_in l n) t) [])) (λ m. if_done c (not_run (as_listed c) t) (cond b (ended (run_of s (allowed_in l m) t)) (not_run (Err BadListing) t)))
   unfolding Are
   are (Ok _) true = (
     each_allowed,
     met_allowed,
-    λ e. calls_many s (allowed_in l n) t ∙ ap (λ (a : Result ⊤ Refusal). if_done a (suc (run_of s (allowed_in l n) t).words) (run_of s (allowed_in l n) t).words) (ap unended e),
-    λ r c e. calls_many s (allowed_in l n) t ∙ ap (λ (a : Result ⊤ Refusal). if_done a (suc (run_of s (allowed_in l n) t).words) (run_of s (allowed_in l n) t).words) (ap unended e),
+    λ e. calls_many s (allowed_in l n) t ∙ ap (λ (a : Result ⊤ Refusal). if_done a (suc (run_of s (allowed_in l n) t).words) (run_of s (allowed_in l n) t).words) (listed_done _ e),
+    λ r c e. calls_many s (allowed_in l n) t ∙ ap (λ (a : Result ⊤ Refusal). if_done a (suc (run_of s (allowed_in l n) t).words) (run_of s (allowed_in l n) t).words) (sym (unended_listed _) ∙ ap unended e),
     λ r e. absurd (refused_not_done r (sym e)),
-    λ e. absurd (true≢false (ap has_ended e)),
+    λ e. absurd (true≢false (sym (ended_listed _) ∙ ap has_ended e)),
   )
   are (Ok _) false = (
     λ k h. absurd (omega (arith, h)),

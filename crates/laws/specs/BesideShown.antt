@@ -1,7 +1,7 @@
 -- Calls that may run between those of a crossing list, written out, so that the statements of Between.antt are seen not to be empty; and what these say of
 -- them. They are of every element size and both directions, with other numbers than 0 too.
 -- Assumes nothing.
-use Rattle.std.specs.Prelude.{ℕ, ◌≡◌, List, [], ◌∷◌, ◌++◌, map, length, set, replicate}
+use Rattle.std.specs.Prelude.{ℕ, ◌≡◌, List, [], ◌∷◌, ◌++◌, map, length, set, replicate, Ok}
 use Rattle.tiles.specs.declared.element.ElementSize.{ElementSize}
 use Rattle.tiles.specs.declared.element.ElementSize.TheVariants.{Bits8, Bits16, Bits32, Bits64, Bits128}
 use Rattle.tiles.specs.declared.direction.Direction.{Direction}
@@ -10,7 +10,6 @@ use Rattle.tiles.specs.declared.slice.TileSlice.{TileSlice}
 use Rattle.encoding.specs.declared.operation.RegisterCount.TheVariants.{Two, Four}
 use Rattle.encoding.specs.declared.operation.Operation.{Operation}
 use Rattle.encoding.specs.declared.operation.Operation.TheVariants.{MovaFromArray, St1, MovaFromTile}
-use Rattle.encoding.specs.declared.operation.Decoded.TheVariants.{Done}
 use Rattle.semantics.specs.ExampleBuffers.{settings_at, z_at, za_at, memory_of, ones, predicate0}
 use Rattle.laws.specs.Calls.{Call, za_after, run, numbers_at, decoded_of}
 use Rattle.laws.specs.Between.{LeavesZa, Beside}
@@ -70,7 +69,7 @@ beside_operations =
 -- they are done, are of the operations listed, each of these is of a kind that has no place in ZA, and so they may run between
 pub record BesideShown : Type 0 where
   pub done : (za : List ℕ) → length za ≡ 256 → numbers_at beside_calls za ≡ replicate 17 0
-  pub decoded : map decoded_of beside_calls ≡ map Done beside_operations
+  pub decoded : map decoded_of beside_calls ≡ map Ok beside_operations
   pub may : Each Beside beside_operations
   pub runs : Each MayRun beside_calls
 
@@ -80,7 +79,7 @@ store_between = record { settings = settings_at 32 0; word = 0xE0A6C8A6; x = rep
 
 pub record StoreShown : Type 0 where
   pub done : (za : List ℕ) → length za ≡ 1024 → numbers_at (store_between ∷ []) za ≡ 0 ∷ []
-  pub decoded : decoded_of store_between ≡ Done (St1 (record { slice = upright Bits32 14 1 2; pg = 2; rn = 5; rm = 6 }))
+  pub decoded : decoded_of store_between ≡ Ok (St1 (record { slice = upright Bits32 14 1 2; pg = 2; rn = 5; rm = 6 }))
   pub ends : (d : Direction) →
       run (refused_calls ++ (shown_in d ++ (store_between ∷ refused_calls ++ (shown_out d ++ (refused_calls ++ []))))) (za_at 32) ≡ run (shown_calls d) (za_at 32)
 

@@ -11,7 +11,6 @@ use Rattle.encoding.specs.declared.operation.ArrayToVectors.{ArrayToVectors}
 use Rattle.encoding.specs.declared.operation.SliceAccess.{SliceAccess}
 use Rattle.encoding.specs.declared.operation.Operation.{Operation}
 use Rattle.encoding.specs.declared.operation.Operation.TheVariants.{MovaToTile, MovazFromTile, MovaFromArray, MovazFromArray, St1, MovaFromTile, Ld1}
-use Rattle.encoding.specs.declared.operation.Decoded.TheVariants.{Done}
 use Rattle.tiles.specs.Predicate.{bit}
 use Rattle.tiles.specs.Tile.{byte_of}
 use Rattle.semantics.specs.declared.answer.Refusal.{Refusal}
@@ -28,7 +27,7 @@ use Rattle.laws.specs.Crossing.{Crosses}
 -- a call that does not write the ZA that it meets: it is refused, or no place of ZA is written
 pub data LeavesZa (c : Call) (za : List ℕ) : Type 0 where
   refused : (r : Refusal) → (outcome c za).answer ≡ Err r → LeavesZa c za
-  idle : (o : Operation) → decoded_of c ≡ Done o → Idle (writes_of c.settings (public_of (state_with c za)) o).za → LeavesZa c za
+  idle : (o : Operation) → decoded_of c ≡ Ok o → Idle (writes_of c.settings (public_of (state_with c za)) o).za → LeavesZa c za
 
 abbrev pub LeavesIsKept : Type 0
 LeavesIsKept = (c : Call) (za : List ℕ) → LeavesZa c za → za_after c za ≡ za
@@ -52,12 +51,12 @@ Beside (MovaFromTile o) = Unit {0}
 Beside (Ld1 o) = ⊥
 
 abbrev pub BesideLeaves : Type 0
-BesideLeaves = (c : Call) (za : List ℕ) (o : Operation) → decoded_of c ≡ Done o → Beside o → LeavesZa c za
+BesideLeaves = (c : Call) (za : List ℕ) (o : Operation) → decoded_of c ≡ Ok o → Beside o → LeavesZa c za
 
 -- so does a move to a tile with no active element: an element goes by the bit of its first byte
 abbrev pub InactiveLeaves : Type 0
 InactiveLeaves =
-    (c : Call) (za : List ℕ) (o : VectorToTile) → decoded_of c ≡ Done (MovaToTile o) →
+    (c : Call) (za : List ℕ) (o : VectorToTile) → decoded_of c ≡ Ok (MovaToTile o) →
     let m = bytes_of o.slice.size in
     ((e : ℕ) → e < c.settings.vector_bytes / m → bit c.p (o.pg * (stride_of c.settings / 8)) (e * m) ≡ false) → LeavesZa c za
 
@@ -68,12 +67,12 @@ LoadsHavePlaces =
     ((writes_of s u (Ld1 o)).za.count ≡ s.vector_bytes) × ((k : ℕ) → (writes_of s u (Ld1 o)).za.on k ≡ true)
 
 abbrev pub LoadsDoNotLeave : Type 0
-LoadsDoNotLeave = (c : Call) (za : List ℕ) (o : SliceAccess) → decoded_of c ≡ Done (Ld1 o) → (outcome c za).answer ≡ Ok tt → LeavesZa c za → ⊥
+LoadsDoNotLeave = (c : Call) (za : List ℕ) (o : SliceAccess) → decoded_of c ≡ Ok (Ld1 o) → (outcome c za).answer ≡ Ok tt → LeavesZa c za → ⊥
 
 -- a load that is done leaves zero in every byte of an inactive element of its slice: in all of them where none is active
 abbrev pub LoadsZero : Type 0
 LoadsZero =
-    (c : Call) (za : List ℕ) (o : SliceAccess) (e i : ℕ) → decoded_of c ≡ Done (Ld1 o) → (outcome c za).answer ≡ Ok tt →
+    (c : Call) (za : List ℕ) (o : SliceAccess) (e i : ℕ) → decoded_of c ≡ Ok (Ld1 o) → (outcome c za).answer ≡ Ok tt →
     let S = stride_of c.settings in let B = c.settings.vector_bytes in let m = bytes_of o.slice.size in
     e < B / m → i < m → bit c.p (o.pg * (S / 8)) (e * m) ≡ false →
     get_or (za_after c za) (byte_of S m o.slice.tile o.slice.direction (slice_number_of B c.x o.slice) e i) 0 ≡ 0
@@ -82,14 +81,14 @@ LoadsZero =
 abbrev pub LoadsStayOut : Type 0
 LoadsStayOut =
     (S B : ℕ) (size : ElementSize) (d : Direction) (t : ℕ) (before after : List Call) (c : Call) (za : List ℕ) (o : SliceAccess) →
-    decoded_of c ≡ Done (Ld1 o) → (outcome c (run before za)).answer ≡ Ok tt → Crosses S B size d t (before ++ c ∷ after) za → ⊥
+    decoded_of c ≡ Ok (Ld1 o) → (outcome c (run before za)).answer ≡ Ok tt → Crosses S B size d t (before ++ c ∷ after) za → ⊥
 
 -- nor does an array move and zero of two or four that is done leave ZA, and no crossing list has one
 abbrev pub ZeroingDoesNotLeave : Type 0
 ZeroingDoesNotLeave =
-    (c : Call) (za : List ℕ) (o : ArrayToVectors) → decoded_of c ≡ Done (MovazFromArray o) → (outcome c za).answer ≡ Ok tt → LeavesZa c za → ⊥
+    (c : Call) (za : List ℕ) (o : ArrayToVectors) → decoded_of c ≡ Ok (MovazFromArray o) → (outcome c za).answer ≡ Ok tt → LeavesZa c za → ⊥
 
 abbrev pub ZeroingStaysOut : Type 0
 ZeroingStaysOut =
     (S B : ℕ) (size : ElementSize) (d : Direction) (t : ℕ) (before after : List Call) (c : Call) (za : List ℕ) (o : ArrayToVectors) →
-    decoded_of c ≡ Done (MovazFromArray o) → (outcome c (run before za)).answer ≡ Ok tt → Crosses S B size d t (before ++ c ∷ after) za → ⊥
+    decoded_of c ≡ Ok (MovazFromArray o) → (outcome c (run before za)).answer ≡ Ok tt → Crosses S B size d t (before ++ c ∷ after) za → ⊥

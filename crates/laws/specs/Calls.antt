@@ -1,7 +1,7 @@
 -- Lists of executions, one after another on one ZA. Renders 01 §9 (its calls are executions).
 -- To believe: what a call is handed, and that whether it is done is execution's own answer at the ZA that it meets.
 -- Assumes nothing.
-use Rattle.std.specs.Prelude.{ℕ, List, [], ◌∷◌, map}
+use Rattle.std.specs.Prelude.{ℕ, List, [], ◌∷◌, map, Result, Ok, Err}
 use Rattle.std.proofs.Math.Option.{Option, none, some}
 use Rattle.settings.specs.declared.Settings.{Settings}
 use Rattle.encoding.specs.Codec.{decode_of}
@@ -11,12 +11,11 @@ use Rattle.tiles.specs.Slice.{slice_number_of}
 use Rattle.tiles.specs.declared.slice.TileSlice.{TileSlice}
 use Rattle.encoding.specs.declared.operation.Operation.{Operation}
 use Rattle.encoding.specs.declared.operation.Operation.TheVariants.{MovaToTile, MovazFromTile, MovaFromArray, MovazFromArray, St1, MovaFromTile, Ld1}
-use Rattle.encoding.specs.declared.operation.Decoded.{Decoded}
-use Rattle.encoding.specs.declared.operation.Decoded.TheVariants as decoded
 use Rattle.semantics.specs.Answer.{executed_number}
 use Rattle.semantics.specs.State.{State, state_of}
 use Rattle.semantics.specs.Execute.{Outcome, if_done, execute_of}
 use Rattle.settings.specs.Settings.{stride_of}
+use Rattle.encoding.specs.declared.operation.DecodeRefusal.{DecodeRefusal}
 
 -- what a call has of its own: all but ZA, of any content and length
 pub record Call : Type 0 where
@@ -47,7 +46,7 @@ abbrev pub numbers_at : List Call → List ℕ → List ℕ
 numbers_at cs za = map (λ (c : Call). executed_number (outcome c za).answer) cs
 
 -- what the call's word means at its own level
-abbrev pub decoded_of : Call → Decoded
+abbrev pub decoded_of : Call → Result Operation DecodeRefusal
 decoded_of c = decode_of c.word c.settings.level
 
 -- what an operation is to a tile: how far apart vectors start (S) and how long they are (B); size, direction and tile; and the slice
@@ -72,10 +71,9 @@ move_of c (St1 o) = other
 move_of c (MovaFromTile o) = other
 move_of c (Ld1 o) = other
 
-abbrev pub decoded_move : Call → Decoded → Option Move
-decoded_move c (decoded.Done o) = some (move_of c o)
-decoded_move c decoded.BadLevel = none
-decoded_move c decoded.Undecodable = none
+abbrev pub decoded_move : Call → Result Operation DecodeRefusal → Option Move
+decoded_move c (Ok o) = some (move_of c o)
+decoded_move c (Err e) = none
 
 -- the move of a call that is done, nothing for one that is refused
 unfoldable pub moved : Call → List ℕ → Option Move
@@ -91,27 +89,25 @@ moves [] za = []
 moves (c ∷ cs) za = with_move (moved c za) (moves cs (za_after c za))
 
 -- the register numbers of a word that moves into a tile, or out of it with zeroing: Zn or Zd, and Pg; 0 for another
-abbrev pub register_in : Decoded → ℕ
-register_in (decoded.Done (MovaToTile o)) = o.zn
-register_in (decoded.Done (MovazFromTile o)) = o.zd
-register_in (decoded.Done (MovaFromArray o)) = 0
-register_in (decoded.Done (MovazFromArray o)) = 0
-register_in (decoded.Done (St1 o)) = 0
-register_in (decoded.Done (MovaFromTile o)) = 0
-register_in (decoded.Done (Ld1 o)) = 0
-register_in decoded.BadLevel = 0
-register_in decoded.Undecodable = 0
+abbrev pub register_in : Result Operation DecodeRefusal → ℕ
+register_in (Ok (MovaToTile o)) = o.zn
+register_in (Ok (MovazFromTile o)) = o.zd
+register_in (Ok (MovaFromArray o)) = 0
+register_in (Ok (MovazFromArray o)) = 0
+register_in (Ok (St1 o)) = 0
+register_in (Ok (MovaFromTile o)) = 0
+register_in (Ok (Ld1 o)) = 0
+register_in (Err e) = 0
 
-abbrev pub predicate_in : Decoded → ℕ
-predicate_in (decoded.Done (MovaToTile o)) = o.pg
-predicate_in (decoded.Done (MovazFromTile o)) = 0
-predicate_in (decoded.Done (MovaFromArray o)) = 0
-predicate_in (decoded.Done (MovazFromArray o)) = 0
-predicate_in (decoded.Done (St1 o)) = 0
-predicate_in (decoded.Done (MovaFromTile o)) = 0
-predicate_in (decoded.Done (Ld1 o)) = 0
-predicate_in decoded.BadLevel = 0
-predicate_in decoded.Undecodable = 0
+abbrev pub predicate_in : Result Operation DecodeRefusal → ℕ
+predicate_in (Ok (MovaToTile o)) = o.pg
+predicate_in (Ok (MovazFromTile o)) = 0
+predicate_in (Ok (MovaFromArray o)) = 0
+predicate_in (Ok (MovazFromArray o)) = 0
+predicate_in (Ok (St1 o)) = 0
+predicate_in (Ok (MovaFromTile o)) = 0
+predicate_in (Ok (Ld1 o)) = 0
+predicate_in (Err e) = 0
 
 abbrev pub register_of : Call → ℕ
 register_of c = register_in (decoded_of c)

@@ -11,7 +11,7 @@ use Rattle.semantics.specs.declared.answer.Refusal.{Refusal}
 use Rattle.semantics.specs.State.{State, state_of}
 use Rattle.semantics.specs.Execute.{if_done}
 use Rattle.semantics.specs.ExampleBuffers.{vector_in, settings_at, z_at, za_at, x_with, vectors}
-use Rattle.listing.specs.declared.answer.Listed.TheVariants.{BadListing, Ended}
+use Rattle.listing.specs.declared.answer.ListingRefusal.TheVariants.{BadListing, Refused}
 use Rattle.listing.specs.Words.{word_at, words_in}
 use Rattle.listing.specs.Listing.{buffers_checked, is_whole, allowed_in, listing_of}
 use Rattle.listing.specs.Examples.{told_of}
@@ -32,10 +32,10 @@ ListingIsCalls = (s : Settings) (l : List ℕ) (n : ℕ) (t : State) → run (li
 pub record CallsAre (s : Settings) (l : List ℕ) (n : ℕ) (t : State) : Type 0 where
   pub each : (k : ℕ) → k < length (listing_calls s l n t) → get_or (listing_calls s l n t) k (call_at s 0 t) ≡ call_at s (word_at l k) (listing_of s l k t).state
   pub met : (k : ℕ) → k < length (listing_calls s l n t) → run (take k (listing_calls s l n t)) t.za ≡ (listing_of s l k t).state.za
-  pub done : (listing_of s l n t).run.answer ≡ Ended (Ok tt) → length (listing_calls s l n t) ≡ (listing_of s l n t).run.words
-  pub stopped : (r : Refusal) → buffers_checked s t ≡ Ok tt → (listing_of s l n t).run.answer ≡ Ended (Err r) → length (listing_calls s l n t) ≡ suc (listing_of s l n t).run.words
+  pub done : (listing_of s l n t).run.answer ≡ Ok tt → length (listing_calls s l n t) ≡ (listing_of s l n t).run.words
+  pub stopped : (r : Refusal) → buffers_checked s t ≡ Ok tt → (listing_of s l n t).run.answer ≡ Err (Refused r) → length (listing_calls s l n t) ≡ suc (listing_of s l n t).run.words
   pub early : (r : Refusal) → buffers_checked s t ≡ Err r → listing_calls s l n t ≡ []
-  pub odd : (listing_of s l n t).run.answer ≡ BadListing → listing_calls s l n t ≡ []
+  pub odd : (listing_of s l n t).run.answer ≡ Err BadListing → listing_calls s l n t ≡ []
 
 abbrev pub ListingCallsAre : Type 0
 ListingCallsAre = (s : Settings) (l : List ℕ) (n : ℕ) (t : State) → CallsAre s l n t

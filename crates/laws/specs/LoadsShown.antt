@@ -1,7 +1,7 @@
 -- Calls that may not run between those of a crossing list, written out: array moves and zero, and loads; and what the statements of Between.antt say of
 -- the former and of loads under partial predicates.
 -- Assumes nothing.
-use Rattle.std.specs.Prelude.{ℕ, ◌+◌, ◌^◌, ◌≡◌, true, List, [], ◌∷◌, ◌++◌, map, length, get_or, set, replicate}
+use Rattle.std.specs.Prelude.{ℕ, ◌+◌, ◌^◌, ◌≡◌, true, List, [], ◌∷◌, ◌++◌, map, length, get_or, set, replicate, Ok}
 use Rattle.tiles.specs.declared.element.ElementSize.{ElementSize}
 use Rattle.tiles.specs.declared.element.ElementSize.TheVariants.{Bits8, Bits16, Bits32}
 use Rattle.tiles.specs.declared.direction.Direction.{Direction}
@@ -10,7 +10,6 @@ use Rattle.encoding.specs.declared.operation.SliceAccess.{SliceAccess}
 use Rattle.encoding.specs.declared.operation.ArrayToVectors.{ArrayToVectors}
 use Rattle.encoding.specs.declared.operation.RegisterCount.TheVariants.{Two, Four}
 use Rattle.encoding.specs.declared.operation.Operation.TheVariants.{MovazFromArray, Ld1}
-use Rattle.encoding.specs.declared.operation.Decoded.TheVariants.{Done}
 use Rattle.semantics.specs.State.{public_of}
 use Rattle.semantics.specs.Effect.{writes_of}
 use Rattle.semantics.specs.ExampleBuffers.{settings_at, z_at, za_at, memory_of, x_with}
@@ -28,7 +27,7 @@ zeroing_moves = record { registers = Two; rv = 8; off = 0; zd = 0 } ∷ record {
 
 pub record ZeroingWrites : Type 0 where
   pub done : numbers_at zeroing_calls (za_at 16) ≡ replicate 2 0
-  pub decoded : map decoded_of zeroing_calls ≡ map (λ (o : ArrayToVectors). Done (MovazFromArray o)) zeroing_moves
+  pub decoded : map decoded_of zeroing_calls ≡ map (λ (o : ArrayToVectors). Ok (MovazFromArray o)) zeroing_moves
   pub before : get_or (za_at 16) 0 0 ≡ 178
   pub after : map (λ (c : Call). get_or (za_after c (za_at 16)) 0 0) zeroing_calls ≡ replicate 2 0
   -- so they may not run between, and no crossing list has one
@@ -103,7 +102,7 @@ WritesAll za o =
 -- they are done at any ZA of 256 bytes
 pub record PartialLoads : Type 0 where
   pub done : (za : List ℕ) → length za ≡ 256 → numbers_at partial_loads za ≡ replicate 3 0
-  pub decoded : map decoded_of partial_loads ≡ map (λ (o : SliceAccess). Done (Ld1 o)) partial_accesses
+  pub decoded : map decoded_of partial_loads ≡ map (λ (o : SliceAccess). Ok (Ld1 o)) partial_accesses
   -- elements 1, 3 and the last are zero, whatever they were
   pub zeros : (za : List ℕ) → length za ≡ 256 →
       (bytes_after byte_load za (25 ∷ 57 ∷ 249 ∷ []) ≡ replicate 3 0) ×

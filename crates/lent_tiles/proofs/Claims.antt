@@ -8,7 +8,7 @@ use mathlib.Core.Logic.{inl, inr}
 use native.Mathlib.Omega.{arith}
 use lib.ListN.{length, get_or}
 use Rattle.std.proofs.Common.{Result, Ok, Err, IsOkAnd, IsErr}
-use Rattle.std.specs.Result.{result_map_both}
+use Rattle.std.specs.Result.{result_map_both, result_unwrap_or}
 use Rattle.general.specs.Determined.{IsOneOf}
 use Rattle.general.proofs.BoolLaws.{refute}
 use Rattle.general.proofs.DeterminedLaws.{equal_determines}
@@ -25,7 +25,7 @@ use Rattle.planner.specs.declared.answer.Taken.{Taken}
 use Rattle.planner.proofs.Claims.{held_determines}
 use Rattle.planner.proofs.RoomLaws.{gives_up_one, take_held, give_up_invalid}
 use Rattle.lent_tiles.specs.Lent.{tiles_in, held_in, if_placed, take_in, give_up_in, held_of, number_in, held_out, array_after, count_after, Leaves, TakesLent, GivesUpLent, Settles, TakesTile, GivesUpTile}
-use Rattle.lent_tiles.specs.Claims.{ShortIsBad, LentExamplesHold, Holds, SettlesDetermines, TakesTileDetermines, GivesUpTileDetermines, TakesLentDetermines, GivesUpLentDetermines, LentDetermines}
+use Rattle.lent_tiles.specs.Claims.{ShortIsBad, LentExamplesHold, Holds, SettlesDetermines, TakesTileDetermines, GivesUpTileDetermines, TakesLentDetermines, GivesUpLentDetermines, LentDetermines, LentInNumbers}
 use Rattle.lent_tiles.proofs.LentLaws.{places_read}
 
 pub short_is_bad : ShortIsBad
@@ -201,3 +201,25 @@ lent_determines = record {
   takes_lent = takes_lent_determines;
   gives_up_lent = gives_up_lent_determines;
 }
+
+pub lent_in_numbers : LentInNumbers
+lent_in_numbers = record {
+  takes = λ ns n m r ns' n' p.
+      record {
+        settles = record { number = ap answer_number p.answer ∙ taken_number (take_in ns n m); tiles = p.leaves.tiles; count = p.leaves.count };
+        tile = ap (λ (r : Result ℕ TileRefusal). result_unwrap_or r 0) p.answer ∙ tile (take_in ns n m);
+      };
+  gives_up = λ ns n x r ns' n' p. record { number = ap answer_number p.answer ∙ given_number (give_up_in ns n x); tiles = p.leaves.tiles; count = p.leaves.count };
+}
+  where
+    taken_number : (a : Result Taken TileRefusal) → answer_number (result_map_both (λ t. t.number) (λ e. e) a) ≡ answer_number (held_of a)
+    taken_number (Ok k) = refl
+    taken_number (Err e) = refl
+
+    tile : (a : Result Taken TileRefusal) → result_unwrap_or (result_map_both (λ t. t.number) (λ e. e) a) 0 ≡ number_of a
+    tile (Ok k) = refl
+    tile (Err e) = refl
+
+    given_number : (a : Result Held TileRefusal) → answer_number (result_map_both (λ _. tt {0}) (λ e. e) a) ≡ answer_number a
+    given_number (Ok h) = refl
+    given_number (Err e) = refl

@@ -9,7 +9,7 @@ use Rattle.std.proofs.Common.{Result, Ok, Err}
 use Rattle.std.proofs.lemmas.List.{ext_get_or}
 use Rattle.std.specs.Array.{IsFromFnResultFrom, IsFromFnResult}
 use denote.Param.Members.{Mut, Called}
-use Rattle.std.specs.Result.{result_map_both, result_unwrap_or}
+use Rattle.std.specs.Result.{result_map_both}
 use native.Mathlib.Decide.{ℕ_discrete}
 use native.Mathlib.Omega.{arith}
 use lib.Dec.{ltb}
@@ -21,7 +21,7 @@ use Rattle.settings.specs.Settings.{is_vector_length}
 use Rattle.general.specs.Scatter.{scatter, all}
 use Rattle.general.proofs.ScatterLaws.{scatter_more}
 use Rattle.planner.specs.Tile.{no_tile, is_size, is_tile}
-use Rattle.planner.specs.Held.{answer_number, held_tiles, valid_held, take_of, number_of}
+use Rattle.planner.specs.Held.{held_tiles, valid_held, take_of}
 use Rattle.planner.specs.Bytes.{Vectors}
 use Rattle.planner.specs.Claims.{Sixteen}
 use Rattle.planner.specs.declared.tile.Tile.{Tile}
@@ -33,7 +33,7 @@ use Rattle.planner.proofs.HeldLaws.{valid_held_lem, valid_tiles}
 use Rattle.planner.proofs.RoomLaws.{without_length}
 use Rattle.planner.proofs.AnswerLaws.{give_up_among}
 use Rattle.planner.proofs.Claims.{taking_takes}
-use Rattle.lent_tiles.specs.Lent.{tile_at_place, tiles_in, held_in, has_places, if_placed, take_in, give_up_in, held_of, number_in, held_out, array_after, count_after, TakesLent, GivesUpLent, TakesTile, GivesUpTile}
+use Rattle.lent_tiles.specs.Lent.{tile_at_place, tiles_in, held_in, has_places, if_placed, take_in, give_up_in, number_in, held_out, array_after, count_after, GivesUpLent}
 
 -- ---- reading
 
@@ -177,26 +177,3 @@ module _ (ns : List ℕ) (n : ℕ) (x : Tile) where
     answer = sym (ap (result_map_both (λ _. tt {0}) (λ e. e)) gave);
     leaves = record { tiles = tiles ∙ ap (array_after ns) (sym gave); count = count ∙ ap (count_after n) (sym gave) };
   }
-
--- ---- exports
-
-pub take_exports : (ns : List ℕ) (n m : ℕ) (r : Result ℕ TileRefusal) (ns' : List ℕ) (n' : ℕ) →
-    TakesLent ns n m r ns' n' → TakesTile ns n m (answer_number r) (result_unwrap_or r 0) ns' n'
-take_exports ns n m r ns' n' p =
-    record { settles = record { number = ap answer_number p.answer ∙ number (take_in ns n m); tiles = p.leaves.tiles; count = p.leaves.count }; tile = ap (λ (r : Result ℕ TileRefusal). result_unwrap_or r 0) p.answer ∙ tile (take_in ns n m) }
-  where
-    number : (a : Result Taken TileRefusal) → answer_number (result_map_both (λ t. t.number) (λ e. e) a) ≡ answer_number (held_of a)
-    number (Ok k) = refl
-    number (Err e) = refl
-
-    tile : (a : Result Taken TileRefusal) → result_unwrap_or (result_map_both (λ t. t.number) (λ e. e) a) 0 ≡ number_of a
-    tile (Ok k) = refl
-    tile (Err e) = refl
-
-pub give_up_exports : (ns : List ℕ) (n : ℕ) (x : Tile) (r : Result (Unit {0}) TileRefusal) (ns' : List ℕ) (n' : ℕ) →
-    GivesUpLent ns n x r ns' n' → GivesUpTile ns n x (answer_number r) ns' n'
-give_up_exports ns n x r ns' n' p = record { number = ap answer_number p.answer ∙ number (give_up_in ns n x); tiles = p.leaves.tiles; count = p.leaves.count }
-  where
-    number : (a : Result Held TileRefusal) → answer_number (result_map_both (λ _. tt {0}) (λ e. e) a) ≡ answer_number a
-    number (Ok h) = refl
-    number (Err e) = refl

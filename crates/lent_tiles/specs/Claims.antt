@@ -3,7 +3,9 @@
 -- Assumes nothing.
 use Rattle.std.specs.Prelude.{ℕ, ◌+◌, ◌*◌, ◌<◌, ◌≤◌, ◌≡◌, true, List, [], ◌∷◌, ◌++◌, length, get_or, take, drop, Result, Err, IsOkAnd}
 use Rattle.general.specs.Determined.{Determined, IsOneOf}
+use Rattle.std.specs.Result.{result_unwrap_or}
 use Rattle.planner.specs.Tile.{tile_of, no_tile, is_size}
+use Rattle.planner.specs.Held.{answer_number}
 use Rattle.planner.specs.Examples.{numbers_of, every_part}
 use Rattle.planner.specs.declared.tile.Tile.{Tile}
 use Rattle.planner.specs.declared.answer.TileRefusal.{TileRefusal}
@@ -107,3 +109,8 @@ pub record LentDetermines : Type 0 where
   pub gives_up : (ns : List ℕ) (n : ℕ) (x : Tile) → GivesUpTileDetermines ns n x
   pub takes_lent : (ns : List ℕ) (n m : ℕ) → TakesLentDetermines ns n m
   pub gives_up_lent : (ns : List ℕ) (n : ℕ) (x : Tile) → GivesUpLentDetermines ns n x
+
+-- what taking and giving up promise is what C is told by the answer's number and the tile's, 0 with a refusal: so what is said above of the numbers is said of them
+pub record LentInNumbers : Type 0 where
+  pub takes : (ns : List ℕ) (n m : ℕ) (r : Result ℕ TileRefusal) (ns' : List ℕ) (n' : ℕ) → TakesLent ns n m r ns' n' → TakesTile ns n m (answer_number r) (result_unwrap_or r 0) ns' n'
+  pub gives_up : (ns : List ℕ) (n : ℕ) (x : Tile) (r : Result (Unit {0}) TileRefusal) (ns' : List ℕ) (n' : ℕ) → GivesUpLent ns n x r ns' n' → GivesUpTile ns n x (answer_number r) ns' n'

@@ -1,4 +1,5 @@
 // Held tiles as hosts lend them: an array of numbers, two for each tile, the bytes of its elements and its number.
+// Array and count stay two parameters, and a tile two numbers: so C hands them to `sme_take_tile` and `sme_give_up_tile`.
 #![tactic(auto)]
 
 ghost use Rattle.std.specs.Prelude.{◌≡◌, ◌*◌, ◌<◌, ◌≤◌, length};
@@ -44,6 +45,7 @@ fn take_in(tiles: &[u64], count: usize, bytes: u64) -> Result<Taken, TileRefusal
 }
 
 // Writes held tiles to the array's first places, and how many there are; what is after them stays.
+// No zip with `chunks_exact_mut(2)`: `returns` did not close, since the array is then known only by what each lent chunk is given back as.
 fn write_held(tiles: &mut [u64], count: &mut usize, held: Held)
     requires { (held.count ≤ 16) × (2 * held.count ≤ length tiles.old) }
     ensures { (tiles.new ≡ held_out tiles.old held) × (count.new ≡ held.count) }

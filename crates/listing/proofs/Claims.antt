@@ -13,6 +13,7 @@ use lib.ListN.{length, take, drop, length-append, length-take, length-drop, get_
 use borrow.Author.Tests.{eqb-true, eq-eqb, ne_eqb}
 use Rattle.general.specs.Determined.{IsOneOf}
 use Rattle.general.proofs.DeterminedLaws.{equal_determines, one_of_more}
+use Rattle.settings.specs.Answer.{Answer}
 use Rattle.settings.specs.Settings.{valid_settings}
 use Rattle.settings.specs.declared.Settings.{Settings}
 use Rattle.encoding.specs.Codec.{decode_of}
@@ -26,17 +27,17 @@ use Rattle.semantics.specs.Claims.{Keeps}
 use Rattle.semantics.proofs.AnswerLaws.{executed_numbers}
 use Rattle.semantics.proofs.ExecuteLaws.{SizedAt, refused_not_done, buffers_rest, buffers_done, buffers_refused}
 use Rattle.semantics.proofs.Claims.{run_goes_on}
-use Rattle.listing.specs.declared.answer.Listed.{Listed}
-use Rattle.listing.specs.declared.answer.Listed.TheVariants.{BadListing, Ended}
+use Rattle.listing.specs.declared.answer.ListingRefusal.{ListingRefusal}
+use Rattle.listing.specs.declared.answer.ListingRefusal.TheVariants.{BadListing, Refused}
 use Rattle.listing.specs.declared.answer.ListingRun.{ListingRun}
 use Rattle.listing.specs.Words.{word_at, words_from, words_in}
-use Rattle.listing.specs.Answer.{listed_number}
+use Rattle.listing.specs.Answer.{as_listed, listed_number}
 use Rattle.listing.specs.Listing.{ListingOutcome, not_run, ended, right_lengths, buffers_checked, is_whole, allowed_in, listing_of}
 use Rattle.listing.specs.Promise.{RunsListing}
 use Rattle.listing.specs.Claims.{WordsAreBytes, AllowedAreFirst, Stops, ListingDoes, ListingsDo, EarlyAnswers, EarlyAnswersExactly, ListingBounded, ListingsBounded, OneWordIsCall, PartsAreWhole, ListingDetermines, ListingsDetermine}
 use Rattle.listing.proofs.WordLaws.{length-words, words_at, word_sum, words_split, words_left, take_words}
 use Rattle.listing.proofs.RunLaws.{sized_keeps, keeps_refl}
-use Rattle.listing.proofs.ListingLaws.{unended, definition_runs, buffers_end, length-ends}
+use Rattle.listing.proofs.ListingLaws.{listed_done, listed_executed, unended, definition_runs, buffers_end, length-ends}
 use Rattle.listing.proofs.StopLaws.{run_keeps, run_all, run_stops, stops_only}
 use Rattle.listing.proofs.LaterLaws.{later_not, later_run}
 
@@ -62,14 +63,14 @@ allowed_are_first l n =
 
 module _ (s : Settings) (l : List ℕ) (n : ℕ) (t : State) where
   -- no word runs, or those that are allowed do on buffers of the right lengths
-  listing_either : (P : ListingOutcome → Type 0) → ((a : Listed) → P (not_run a t)) → (SizedAt s t → P (ended (run_of s (allowed_in l n) t))) → P (listing_of s l n t)
+  listing_either : (P : ListingOutcome → Type 0) → ((a : Result ⊤ ListingRefusal) → P (not_run a t)) → (SizedAt s t → P (ended (run_of s (allowed_in l n) t))) → P (listing_of s l n t)
   unfolding listing_of
   listing_either P early ran = go (buffers_checked s t) refl (is_whole l)
     where
-      go : (c : Result ⊤ Refusal) → buffers_checked s t ≡ c → (b : Bool) → P (if_done c (not_run (Ended c) t) (cond b (ended (run_of s (allowed_in l n) t)) (not_run BadListing t)))
+      go : (c : Result ⊤ Refusal) → buffers_checked s t ≡ c → (b : Bool) → P (if_done c (not_run (as_listed c) t) (cond b (ended (run_of s (allowed_in l n) t)) (not_run (Err BadListing) t)))
       go (Ok _) e true = ran (buffers_done s _ _ _ _ _ (Ok tt) e).0
-      go (Ok _) e false = early BadListing
-      go (Err r) e b = early (Ended (Err r))
+      go (Ok _) e false = early (Err BadListing)
+      go (Err r) e b = early (Err (Refused r))
 
   -- settings and lengths are right
   both_right : valid_settings s ≡ true → right_lengths s t ≡ true → buffers_checked s t ≡ Ok tt
@@ -122,20 +123,20 @@ module _ (s : Settings) (l : List ℕ) (n : ℕ) (t : State) where
           let e = named _ (sym (ran v r (eqb-true _ _ w))) in
           let later = later_run s (allowed_in l n) t (buffers_done s _ _ _ _ _ (Ok tt) (both_right v r)).0 in
           record {
-            one = λ q. absurd (later_not answer 1 refl later (sym e ∙ q));
-            two = λ q. absurd (later_not answer 2 refl later (sym e ∙ q));
-            nine = λ q. absurd (later_not answer 9 refl later (sym e ∙ q));
+            one = λ q. absurd (later_not answer 1 refl later (sym (ap (λ (a : Answer). a.number) (listed_executed answer)) ∙ sym e ∙ q));
+            two = λ q. absurd (later_not answer 2 refl later (sym (ap (λ (a : Answer). a.number) (listed_executed answer)) ∙ sym e ∙ q));
+            nine = λ q. absurd (later_not answer 9 refl later (sym (ap (λ (a : Answer). a.number) (listed_executed answer)) ∙ sym e ∙ q));
           }
 
   -- ---- bounds
 
   -- with 0 every word that may run is done
-  listing_reaches : (listing_of s l n t).run.answer ≡ Ended (Ok tt) → (listing_of s l n t).run.words ≡ min n (length l / 4)
+  listing_reaches : (listing_of s l n t).run.answer ≡ Ok tt → (listing_of s l n t).run.words ≡ min n (length l / 4)
   unfolding listing_of
   listing_reaches = go (buffers_checked s t) (is_whole l)
     where
-      go : (c : Result ⊤ Refusal) (b : Bool) → (let o = if_done c (not_run (Ended c) t) (cond b (ended (run_of s (allowed_in l n) t)) (not_run BadListing t)) in o.run.answer ≡ Ended (Ok tt) → o.run.words ≡ min n (length l / 4))
-      go (Ok _) true e = run_all s (allowed_in l n) t (ap unended e) ∙ length-allowed l n
+      go : (c : Result ⊤ Refusal) (b : Bool) → (let o = if_done c (not_run (as_listed c) t) (cond b (ended (run_of s (allowed_in l n) t)) (not_run (Err BadListing) t)) in o.run.answer ≡ Ok tt → o.run.words ≡ min n (length l / 4))
+      go (Ok _) true e = run_all s (allowed_in l n) t (listed_done _ e) ∙ length-allowed l n
       go (Ok _) false e = absurd (refused_not_done BadSettings (ap unended e))
       go (Err r) b e = absurd (refused_not_done r (ap unended e))
 
@@ -162,9 +163,10 @@ module _ (s : Settings) (l : List ℕ) (n : ℕ) (t : State) where
     numbers = λ r t' p. numbers r.answer;
   }
     where
-      numbers : (a : Listed) → IsOneOf (0 ∷ 1 ∷ 2 ∷ 3 ∷ 4 ∷ 5 ∷ 6 ∷ 7 ∷ 9 ∷ []) (listed_number a)
-      numbers BadListing = inr (inr (inr (inr (inr (inr (inr (inr (inl refl))))))))
-      numbers (Ended e) = one_of_more (0 ∷ 1 ∷ 2 ∷ 3 ∷ 4 ∷ 5 ∷ 6 ∷ 7 ∷ []) (9 ∷ []) (executed_number e) (executed_numbers e)
+      numbers : (a : Result ⊤ ListingRefusal) → IsOneOf (0 ∷ 1 ∷ 2 ∷ 3 ∷ 4 ∷ 5 ∷ 6 ∷ 7 ∷ 9 ∷ []) (listed_number a)
+      numbers (Err BadListing) = inr (inr (inr (inr (inr (inr (inr (inr (inl refl))))))))
+      numbers (Err (Refused r)) = one_of_more (0 ∷ 1 ∷ 2 ∷ 3 ∷ 4 ∷ 5 ∷ 6 ∷ 7 ∷ []) (9 ∷ []) (executed_number (Err r)) (executed_numbers (Err r))
+      numbers (Ok _) = inl refl
 
 pub listings_do : ListingsDo
 listings_do = listing_does
@@ -207,16 +209,16 @@ one_word_is_call s l n t long h = go (buffers_checked s t) refl
     whole = ap (λ (k : ℕ). eqb (k % 4) 0) long
 
     Is : ListingOutcome → Type 0
-    Is q = (q.run ≡ record { words = if_done o.answer 0 1; answer = Ended o.answer }) × (q.state ≡ o.state)
+    Is q = (q.run ≡ record { words = if_done o.answer 0 1; answer = as_listed o.answer }) × (q.state ≡ o.state)
 
     go : (c : Result ⊤ Refusal) → buffers_checked s t ≡ c → Is (listing_of s l n t)
     go (Err r) e =
         let q = buffers_refuse s (word_at l 0) t r e in
-        subst Is (buffers_end s l n t r e) (λ k. record { words = if_done (sym q k).answer 0 1; answer = Ended (sym q k).answer }, λ k. (sym q k).state)
+        subst Is (buffers_end s l n t r e) (λ k. record { words = if_done (sym q k).answer 0 1; answer = as_listed (sym q k).answer }, λ k. (sym q k).state)
     go (Ok _) e =
         let f = run_goes_on s t in
         subst Is (ap (λ (ws : List ℕ). ended (run_of s ws t)) (sym allowed) ∙ length-ends s l n t true e whole)
-        (λ k. record { words = f.counted (word_at l 0) k; answer = Ended (f.one (word_at l 0) k).answer }, λ k. (f.one (word_at l 0) k).state)
+        (λ k. record { words = f.counted (word_at l 0) k; answer = as_listed (f.one (word_at l 0) k).answer }, λ k. (f.one (word_at l 0) k).state)
 
 -- ---- two parts
 
@@ -227,7 +229,7 @@ module _ (s : Settings) (l : List ℕ) (a b : ℕ) (t : State) where
 
   -- what is claimed of the first part
   Goes : ListingOutcome → Type 0
-  Goes f = f.run.answer ≡ Ended (Ok tt) → listing_of s l (a + b) t ≡ joined f (listing_of s (drop (4 * f.run.words) l) b f.state)
+  Goes f = f.run.answer ≡ Ok tt → listing_of s l (a + b) t ≡ joined f (listing_of s (drop (4 * f.run.words) l) b f.state)
 
   module _ (checked : buffers_checked s t ≡ Ok tt) (whole : length l % 4 ≡ 0) where
     -- the words of the first part, and of the second
@@ -278,7 +280,7 @@ module _ (s : Settings) (l : List ℕ) (a b : ℕ) (t : State) where
     unfolding Goes joined k m first second rest
     first_goes e =
         sym (ap (λ (ws : List ℕ). ended (run_of s ws t)) (sym allowed) ∙ length-ends s l (a + b) t true checked (eq-eqb (length l % 4) 0 whole)) ∙
-        (λ i. record { run = record { words = more.1 i; answer = Ended (more.0 i).answer }; state = (more.0 i).state }) ∙
+        (λ i. record { run = record { words = more.1 i; answer = as_listed (more.0 i).answer }; state = (more.0 i).state }) ∙
         ap (joined (ended first)) (second_is ∙ ap (λ (n : ℕ). listing_of s (drop (4 * n) l) b first.ending.state) (sym all))
       where
         split : min (a + b) (length l / 4) ≡ k + m
@@ -288,10 +290,10 @@ module _ (s : Settings) (l : List ℕ) (a b : ℕ) (t : State) where
         allowed = take_words l 0 (a + b) (length l / 4) (k + m) (sym split) ∙ words_split l 0 k m
 
         more : ((run_of s (words_from l 0 k ++ words_from l (0 + k) m) t).ending ≡ second.ending) × ((run_of s (words_from l 0 k ++ words_from l (0 + k) m) t).words ≡ first.words + second.words)
-        more = (run_goes_on s t).more (words_from l 0 k) (words_from l (0 + k) m) (ap unended e)
+        more = (run_goes_on s t).more (words_from l 0 k) (words_from l (0 + k) m) (listed_done _ e)
 
         all : first.words ≡ k
-        all = run_all s (words_from l 0 k) t (ap unended e) ∙ length-words l 0 k
+        all = run_all s (words_from l 0 k) t (listed_done _ e) ∙ length-words l 0 k
 
 pub parts_are_whole : PartsAreWhole
 unfolding Goes joined k first

@@ -13,8 +13,6 @@ use Rattle.encoding.specs.Codec.{decode_of}
 use Rattle.encoding.specs.declared.operation.SliceAccess.{SliceAccess}
 use Rattle.encoding.specs.declared.operation.Operation.{Operation}
 use Rattle.encoding.specs.declared.operation.Operation.TheVariants.{MovaToTile, MovazFromTile, MovaFromArray, MovazFromArray, St1, MovaFromTile, Ld1}
-use Rattle.encoding.specs.declared.operation.Decoded.{Decoded}
-use Rattle.encoding.specs.declared.operation.Decoded.TheVariants as decoded
 use Rattle.semantics.specs.declared.answer.Refusal.{Refusal}
 use Rattle.semantics.specs.declared.answer.Refusal.TheVariants.{StreamingOff, ZaOff, StackMisaligned}
 use Rattle.semantics.specs.Answer.{executed_number}
@@ -24,6 +22,8 @@ use Rattle.semantics.specs.Run.{one_more, run_of}
 use Rattle.semantics.proofs.ExecuteLaws.{SizedAt, sized_answer}
 use Rattle.semantics.proofs.Claims.{execution_keeps}
 use Rattle.listing.proofs.RunLaws.{sized_keeps}
+use Rattle.encoding.specs.declared.operation.DecodeRefusal.{DecodeRefusal}
+use Rattle.encoding.specs.declared.operation.DecodeRefusal.TheVariants.{BadLevel, Undecodable}
 
 -- a number that is none of the three that come before the words
 abbrev is_later : ℕ → Bool
@@ -57,10 +57,10 @@ module _ (s : Settings) (x p : List ℕ) (lm : ℕ) where
   later_operation (MovaFromTile o) = refl
   later_operation (Ld1 o) = later_access o
 
-  later_decoded : (d : Decoded) → Later (word_answer s x p lm d)
-  later_decoded (decoded.Done o) = later_guard s.streaming StreamingOff _ refl (later_guard s.za ZaOff _ refl (later_operation o))
-  later_decoded decoded.BadLevel = refl
-  later_decoded decoded.Undecodable = refl
+  later_decoded : (d : Result Operation DecodeRefusal) → Later (word_answer s x p lm d)
+  later_decoded (Ok o) = later_guard s.streaming StreamingOff _ refl (later_guard s.za ZaOff _ refl (later_operation o))
+  later_decoded (Err BadLevel) = refl
+  later_decoded (Err Undecodable) = refl
 
 -- a word on buffers of the right lengths, and so a run of words
 later_word : (s : Settings) (w : ℕ) (t : State) → SizedAt s t → Later (execute_of s w t).answer

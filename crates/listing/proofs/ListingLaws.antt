@@ -16,18 +16,31 @@ use Rattle.semantics.specs.State.{State}
 use Rattle.semantics.specs.Execute.{guard, if_done, execute_of}
 use Rattle.semantics.specs.Run.{Ran, one_more, run_of}
 use Rattle.semantics.proofs.Claims.{definition_executes}
-use Rattle.listing.specs.declared.answer.Listed.{Listed}
-use Rattle.listing.specs.declared.answer.Listed.TheVariants.{BadListing, Ended}
+use Rattle.listing.specs.declared.answer.ListingRefusal.{ListingRefusal}
+use Rattle.listing.specs.declared.answer.ListingRefusal.TheVariants.{BadListing, Refused}
 use Rattle.listing.specs.declared.answer.ListingRun.{ListingRun}
-use Rattle.listing.specs.Answer.{listed_answer}
+use Rattle.listing.specs.Answer.{as_listed, listed_answer}
 use Rattle.listing.specs.Listing.{ListingOutcome, not_run, ended, right_lengths, buffers_checked, is_whole, allowed_in, listing_of}
 use Rattle.listing.specs.Promise.{words_in_numbers, listing_in_numbers, RunsListing}
 use Rattle.listing.specs.Steps.{EndsAs}
 
--- how words ended; a refusal where none ran
-abbrev pub unended : Listed → Result ⊤ Refusal
-unended BadListing = Err BadSettings
-unended (Ended e) = e
+-- what a word's answer was, as which a listing ended; a refusal where none ran
+abbrev pub unended : Result ⊤ ListingRefusal → Result ⊤ Refusal
+unended (Ok _) = Ok tt
+unended (Err BadListing) = Err BadSettings
+unended (Err (Refused r)) = Err r
+
+pub unended_listed : (a : Result ⊤ Refusal) → unended (as_listed a) ≡ a
+unended_listed (Ok _) = refl
+unended_listed (Err r) = refl
+
+-- what is done as a listing's answer is done as a word's
+pub listed_done : (a : Result ⊤ Refusal) → as_listed a ≡ Ok tt → a ≡ Ok tt
+listed_done a e = sym (unended_listed a) ∙ ap unended e
+
+pub listed_executed : (a : Result ⊤ Refusal) → listed_answer (as_listed a) ≡ executed_answer a
+listed_executed (Ok _) = refl
+listed_executed (Err r) = refl
 
 -- ---- the answer in numbers
 
@@ -68,12 +81,12 @@ module _ (s : Settings) (l : List ℕ) (n : ℕ) (t : State) where
       checked a b = guard a BadSettings (guard b BadLengths (Ok tt))
 
       go : (a b c : Bool) →
-          listed_answer (if_done (checked a b) (not_run (Ended (checked a b)) t) (cond c (ended (run_of s (allowed_in l n) t)) (not_run BadListing t))).run.answer ≡
+          listed_answer (if_done (checked a b) (not_run (as_listed (checked a b)) t) (cond c (ended (run_of s (allowed_in l n) t)) (not_run (Err BadListing) t))).run.answer ≡
           cond (not a) (answer_with bad_settings []) (cond (not b) (answer_with bad_lengths []) (cond (not c) (answer_with bad_listing []) (words_in_numbers s (allowed_in l n) t)))
       go false b c = refl
       go true false c = refl
       go true true false = refl
-      go true true true = words_agree s (allowed_in l n) t
+      go true true true = listed_executed (run_of s (allowed_in l n) t).ending.answer ∙ words_agree s (allowed_in l n) t
 
   -- ---- the ways it ends
 
@@ -87,16 +100,16 @@ module _ (s : Settings) (l : List ℕ) (n : ℕ) (t : State) where
       }
 
   -- by settings and lengths
-  pub buffers_end : (r : Refusal) → buffers_checked s t ≡ Err r → not_run (Ended (Err r)) t ≡ listing_of s l n t
+  pub buffers_end : (r : Refusal) → buffers_checked s t ≡ Err r → not_run (Err (Refused r)) t ≡ listing_of s l n t
   unfolding listing_of
-  buffers_end r e = ap (λ (c : Result ⊤ Refusal). if_done c (not_run (Ended c) t) (cond (is_whole l) (ended (run_of s (allowed_in l n) t)) (not_run BadListing t))) (sym e)
+  buffers_end r e = ap (λ (c : Result ⊤ Refusal). if_done c (not_run (as_listed c) t) (cond (is_whole l) (ended (run_of s (allowed_in l n) t)) (not_run (Err BadListing) t))) (sym e)
 
   -- by the listing's length, or as its words do
-  pub length-ends : (b : Bool) → buffers_checked s t ≡ Ok tt → is_whole l ≡ b → cond b (ended (run_of s (allowed_in l n) t)) (not_run BadListing t) ≡ listing_of s l n t
+  pub length-ends : (b : Bool) → buffers_checked s t ≡ Ok tt → is_whole l ≡ b → cond b (ended (run_of s (allowed_in l n) t)) (not_run (Err BadListing) t) ≡ listing_of s l n t
   unfolding listing_of
   length-ends b e q =
-      ap (λ (b : Bool). cond b (ended (run_of s (allowed_in l n) t)) (not_run BadListing t)) (sym q) ∙
-      ap (λ (c : Result ⊤ Refusal). if_done c (not_run (Ended c) t) (cond (is_whole l) (ended (run_of s (allowed_in l n) t)) (not_run BadListing t))) (sym e)
+      ap (λ (b : Bool). cond b (ended (run_of s (allowed_in l n) t)) (not_run (Err BadListing) t)) (sym q) ∙
+      ap (λ (c : Result ⊤ Refusal). if_done c (not_run (as_listed c) t) (cond (is_whole l) (ended (run_of s (allowed_in l n) t)) (not_run (Err BadListing) t))) (sym e)
 
   pub words_end : buffers_checked s t ≡ Ok tt → is_whole l ≡ true → (ran : Ran) → ran ≡ run_of s (allowed_in l n) t → (r : ListingRun) (t' : State) → EndsAs ran r t' → RunsListing s l n t r t'
   words_end e q ran same r t' f =

@@ -16,9 +16,10 @@ use Rattle.semantics.specs.Promise.{Executes}
 use Rattle.semantics.specs.Claims.{Keeps}
 use Rattle.semantics.proofs.ExecuteLaws.{SizedAt}
 use Rattle.semantics.proofs.Claims.{execution_keeps}
+use Rattle.listing.specs.declared.answer.ListingRefusal.TheVariants.{Refused}
+use Rattle.listing.specs.Answer.{as_listed}
 use Rattle.listing.specs.Words.{word_at, words_from}
 use Rattle.listing.specs.Steps.{EndsAs}
-use Rattle.listing.specs.declared.answer.Listed.TheVariants.{Ended}
 
 -- ---- lengths
 
@@ -59,8 +60,8 @@ pub words_on-none : (i : ℕ) (o : Outcome) → words_on i (record { words = 0; 
 words_on-none i o = λ k. record { words = add-zero i k; ending = o }
 
 -- a run that ended so, as its function gives it
-ends_as : (ran : Ran) (i : ℕ) (a : Result ⊤ Refusal) (t' : State) → ran ≡ record { words = i; ending = record { answer = a; state = t' } } → EndsAs ran (record { words = i; answer = Ended a }) t'
-ends_as ran i a t' e = (λ k. record { words = (sym e k).words; answer = Ended (sym e k).ending.answer }, λ k. (sym e k).ending.state)
+ends_as : (ran : Ran) (i : ℕ) (a : Result ⊤ Refusal) (t' : State) → ran ≡ record { words = i; ending = record { answer = a; state = t' } } → EndsAs ran (record { words = i; answer = as_listed a }) t'
+ends_as ran i a t' e = (λ k. record { words = (sym e k).words; answer = as_listed (sym e k).ending.answer }, λ k. (sym e k).ending.state)
 
 module _ (s : Settings) (l : List ℕ) (n : ℕ) (t : State) where
   -- i of n words are done and have left a state; what is left runs on from it
@@ -81,14 +82,14 @@ module _ (s : Settings) (l : List ℕ) (n : ℕ) (t : State) where
     onward_sized = sized_keeps s t t' o.kept
 
     -- at the end all are done
-    pub onward_ends : i ≤ n → n ≤ i → EndsAs (run_of s (words_from l 0 n) t) (record { words = n; answer = Ended (Ok tt) }) t'
+    pub onward_ends : i ≤ n → n ≤ i → EndsAs (run_of s (words_from l 0 n) t) (record { words = n; answer = Ok tt }) t'
     unfolding run_of words_from
     onward_ends h g = go o.left o.sum o.rest
       where
         i_is : i ≡ n
         i_is = omega (arith, h, g)
 
-        go : (m : ℕ) → i + m ≡ n → run_of s (words_from l 0 n) t ≡ words_on i (run_of s (words_from l i m) t') → EndsAs (run_of s (words_from l 0 n) t) (record { words = n; answer = Ended (Ok tt) }) t'
+        go : (m : ℕ) → i + m ≡ n → run_of s (words_from l 0 n) t ≡ words_on i (run_of s (words_from l i m) t') → EndsAs (run_of s (words_from l 0 n) t) (record { words = n; answer = Ok tt }) t'
         go zero q p = ends_as _ n (Ok tt) t' (p ∙ words_on-none i (record { answer = Ok tt; state = t' }) ∙ ap (λ (j : ℕ). record { words = j; ending = record { answer = Ok tt; state = t' } }) i_is)
         go (suc m) q p = absurd (omega (arith, g, q))
 
@@ -126,9 +127,10 @@ module _ (s : Settings) (l : List ℕ) (n : ℕ) (t : State) where
           })
 
       -- a refused one is the last, and is not counted
-      pub onward_refused : (r : Refusal) → a ≡ Err r → EndsAs (run_of s (words_from l 0 n) t) (record { words = i; answer = Ended a }) t''
+      pub onward_refused : (r : Refusal) → a ≡ Err r → EndsAs (run_of s (words_from l 0 n) t) (record { words = i; answer = Err (Refused r) }) t''
       unfolding next
       onward_refused r e =
           let f = run_next o.left o.sum o.rest in
-          ends_as _ i a t''
-          (f.2 ∙ ap (λ (b : Result ⊤ Refusal). words_on i (next b (record { answer = a; state = t'' }) f.0)) e ∙ words_on-none i (record { answer = a; state = t'' }))
+          subst (λ (b : Result ⊤ Refusal). EndsAs (run_of s (words_from l 0 n) t) (record { words = i; answer = as_listed b }) t'') e
+          (ends_as _ i a t''
+          (f.2 ∙ ap (λ (b : Result ⊤ Refusal). words_on i (next b (record { answer = a; state = t'' }) f.0)) e ∙ words_on-none i (record { answer = a; state = t'' })))

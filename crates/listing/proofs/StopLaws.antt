@@ -14,7 +14,7 @@ use Rattle.semantics.specs.Run.{Ran, one_more, run_of}
 use Rattle.semantics.specs.Claims.{Keeps}
 use Rattle.semantics.proofs.ExecuteLaws.{Ends, does, stays, ends, refused_not_done}
 use Rattle.semantics.proofs.Claims.{execution_keeps}
-use Rattle.listing.specs.declared.answer.Listed.TheVariants.{Ended}
+use Rattle.listing.specs.Answer.{as_listed}
 use Rattle.listing.specs.declared.answer.ListingRun.{ListingRun}
 use Rattle.listing.specs.Listing.{ended}
 use Rattle.listing.specs.Claims.{AllDone, StopsAt, Stops}
@@ -80,7 +80,7 @@ module _ (s : Settings) where
             words = refl;
             count = refl;
             done = refused_stays w t r e;
-            stop = (r, ap (λ (u : State). (execute_of s w u).answer) (refused_stays w t r e) ∙ e, ap Ended e);
+            stop = (r, ap (λ (u : State). (execute_of s w u).answer) (refused_stays w t r e) ∙ e, ap as_listed e);
           }
 
   -- ---- and nothing else does
@@ -109,7 +109,7 @@ module _ (s : Settings) where
       none = omega arith
   stops_ends n (w ∷ ws) t r c e =
       let stepped = ap (λ (a : Result ⊤ Refusal). words_on n (step a w ws t)) e.1 ∙ words_on-none n (execute_of s w t) in (
-        λ k. record { words = (c ∙ ap (λ (q : Ran). q.words) (sym stepped)) k; answer = (e.2 ∙ ap Ended (sym e.1) ∙ ap (λ (q : Ran). Ended q.ending.answer) (sym stepped)) k },
+        λ k. record { words = (c ∙ ap (λ (q : Ran). q.words) (sym stepped)) k; answer = (e.2 ∙ ap as_listed (sym e.1) ∙ ap (λ (q : Ran). as_listed q.ending.answer) (sym stepped)) k },
         sym (refused_stays w t e.0 e.1) ∙ ap (λ (q : Ran). q.ending.state) (sym stepped),
       )
 

@@ -1,7 +1,7 @@
 -- The theorems about listings, as statements; proofs/Claims.antt proves each. Request 5's own sentences, in words and lists of words: what a definition says by
 -- taking, cutting and iterating is said here by what was done and what was not.
 -- Assumes nothing.
-use Rattle.std.specs.Prelude.{ℕ, ◌+◌, ◌*◌, ◌/◌, ◌%◌, ◌<◌, ◌≤◌, min, ◌≡◌, true, false, List, [], ◌∷◌, ◌++◌, length, get_or, drop, Ok, Err}
+use Rattle.std.specs.Prelude.{ℕ, ◌+◌, ◌*◌, ◌/◌, ◌%◌, ◌<◌, ◌≤◌, min, ◌≡◌, true, false, List, [], ◌∷◌, ◌++◌, length, get_or, drop, Ok, Err, Result, ⊤}
 use Rattle.general.specs.Determined.{Determined, Met, IsOneOf}
 use Rattle.settings.specs.Settings.{valid_settings}
 use Rattle.settings.specs.declared.Settings.{Settings}
@@ -10,11 +10,11 @@ use Rattle.semantics.specs.declared.answer.Refusal.TheVariants.{BadSettings, Bad
 use Rattle.semantics.specs.State.{State}
 use Rattle.semantics.specs.Execute.{if_done, execute_of}
 use Rattle.semantics.specs.Claims.{Keeps}
-use Rattle.listing.specs.declared.answer.Listed.{Listed}
-use Rattle.listing.specs.declared.answer.Listed.TheVariants.{BadListing, Ended}
+use Rattle.listing.specs.declared.answer.ListingRefusal.{ListingRefusal}
+use Rattle.listing.specs.declared.answer.ListingRefusal.TheVariants.{BadListing, Refused}
 use Rattle.listing.specs.declared.answer.ListingRun.{ListingRun}
 use Rattle.listing.specs.Words.{word_at, words_in}
-use Rattle.listing.specs.Answer.{listed_number}
+use Rattle.listing.specs.Answer.{as_listed, listed_number}
 use Rattle.listing.specs.Listing.{not_run, right_lengths, allowed_in, listing_of}
 use Rattle.listing.specs.Promise.{RunsListing}
 
@@ -45,9 +45,9 @@ AllDone s [] t t' = t' ≡ t
 AllDone s (w ∷ ws) t t' = ((execute_of s w t).answer ≡ Ok tt) × AllDone s ws (execute_of s w t).state t'
 
 -- no words are left, or the first of those that are left is refused by a single call
-abbrev pub StopsAt : Settings → List ℕ → State → Listed → Type 0
-StopsAt s [] t a = a ≡ Ended (Ok tt)
-StopsAt s (w ∷ ws) t a = (r : Refusal) × ((execute_of s w t).answer ≡ Err r) × (a ≡ Ended (Err r))
+abbrev pub StopsAt : Settings → List ℕ → State → Result ⊤ ListingRefusal → Type 0
+StopsAt s [] t a = a ≡ Ok tt
+StopsAt s (w ∷ ws) t a = (r : Refusal) × ((execute_of s w t).answer ≡ Err r) × (a ≡ Err (Refused r))
 
 -- Of the words that may run some are done, one after another, and counted; the state is the one that they left, so that the word that stops them changes nothing; and
 -- they stop at the end with 0, or at a word that is refused, with its answer.
@@ -63,9 +63,9 @@ pub record Stops (s : Settings) (ws : List ℕ) (t : State) (r : ListingRun) (t'
 
 -- Answers in order: 1, 2, 9, each with no word done and every buffer as it was, whatever the words and the allowance; then what the words give, and nothing else.
 pub record ListingDoes (s : Settings) (l : List ℕ) (n : ℕ) (t : State) : Type 0 where
-  pub settings : valid_settings s ≡ false → listing_of s l n t ≡ not_run (Ended (Err BadSettings)) t
-  pub lengths : valid_settings s ≡ true → right_lengths s t ≡ false → listing_of s l n t ≡ not_run (Ended (Err BadLengths)) t
-  pub odd : valid_settings s ≡ true → right_lengths s t ≡ true → (length l % 4 ≡ 0 → ⊥) → listing_of s l n t ≡ not_run BadListing t
+  pub settings : valid_settings s ≡ false → listing_of s l n t ≡ not_run (Err (Refused BadSettings)) t
+  pub lengths : valid_settings s ≡ true → right_lengths s t ≡ false → listing_of s l n t ≡ not_run (Err (Refused BadLengths)) t
+  pub odd : valid_settings s ≡ true → right_lengths s t ≡ true → (length l % 4 ≡ 0 → ⊥) → listing_of s l n t ≡ not_run (Err BadListing) t
   pub words : valid_settings s ≡ true → right_lengths s t ≡ true → length l % 4 ≡ 0 → Stops s (allowed_in l n) t (listing_of s l n t).run (listing_of s l n t).state
   pub only : valid_settings s ≡ true → right_lengths s t ≡ true → length l % 4 ≡ 0 →
       (r : ListingRun) (t' : State) → Stops s (allowed_in l n) t r t' → (r ≡ (listing_of s l n t).run) × (t' ≡ (listing_of s l n t).state)
@@ -86,7 +86,7 @@ EarlyAnswersExactly = (s : Settings) (l : List ℕ) (n : ℕ) (t : State) → Ea
 pub record ListingBounded (s : Settings) (l : List ℕ) (n : ℕ) (t : State) : Type 0 where
   pub allowed : (listing_of s l n t).run.words ≤ n
   pub listed : (listing_of s l n t).run.words ≤ length l / 4
-  pub reached : (listing_of s l n t).run.answer ≡ Ended (Ok tt) → (listing_of s l n t).run.words ≡ min n (length l / 4)
+  pub reached : (listing_of s l n t).run.answer ≡ Ok tt → (listing_of s l n t).run.words ≡ min n (length l / 4)
   pub kept : Keeps t (listing_of s l n t).state
 
 abbrev pub ListingsBounded : Type 0
@@ -97,14 +97,14 @@ abbrev pub OneWordIsCall : Type 0
 OneWordIsCall =
     (s : Settings) (l : List ℕ) (n : ℕ) (t : State) → length l ≡ 4 → 0 < n →
     let o = execute_of s (word_at l 0) t in
-    ((listing_of s l n t).run ≡ record { words = if_done o.answer 0 1; answer = Ended o.answer }) × ((listing_of s l n t).state ≡ o.state)
+    ((listing_of s l n t).run ≡ record { words = if_done o.answer 0 1; answer = as_listed o.answer }) × ((listing_of s l n t).state ≡ o.state)
 
 -- A listing in two parts, the second from where the first stopped by its allowance or at the end, is the listing run whole.
 abbrev pub PartsAreWhole : Type 0
 PartsAreWhole =
     (s : Settings) (l : List ℕ) (a b : ℕ) (t : State) →
     let f = listing_of s l a t in
-    f.run.answer ≡ Ended (Ok tt) →
+    f.run.answer ≡ Ok tt →
     let g = listing_of s (drop (4 * f.run.words) l) b f.state in
     listing_of s l (a + b) t ≡ record { run = record { words = f.run.words + g.run.words; answer = g.run.answer }; state = g.state }
 

@@ -2,14 +2,15 @@
 -- To believe: `listing_of`. Settings and lengths come first, then the listing's length, then its words one after another as `run_of` runs them, which iterates
 -- the definition of execution; as many of them as the allowance says at most.
 -- Assumes nothing.
-use Rattle.std.specs.Prelude.{ℕ, ◌%◌, Bool, cond, List, eqb, length, take, Result, ⊤, Ok}
+use Rattle.std.specs.Prelude.{ℕ, ◌%◌, Bool, cond, List, eqb, length, take, Result, ⊤, Ok, Err}
 use Rattle.settings.specs.declared.Settings.{Settings}
 use Rattle.semantics.specs.declared.answer.Refusal.{Refusal}
 use Rattle.semantics.specs.State.{State}
 use Rattle.semantics.specs.Execute.{valid_lengths, buffers_answer, if_done}
 use Rattle.semantics.specs.Run.{Ran, run_of}
-use Rattle.listing.specs.declared.answer.Listed.{Listed}
-use Rattle.listing.specs.declared.answer.Listed.TheVariants.{BadListing, Ended}
+use Rattle.listing.specs.Answer.{as_listed}
+use Rattle.listing.specs.declared.answer.ListingRefusal.{ListingRefusal}
+use Rattle.listing.specs.declared.answer.ListingRefusal.TheVariants.{BadListing}
 use Rattle.listing.specs.declared.answer.ListingRun.{ListingRun}
 use Rattle.listing.specs.Words.{words_in}
 
@@ -19,12 +20,12 @@ pub record ListingOutcome : Type 0 where
   pub state : State
 
 -- no word was run, and every buffer is as it was
-abbrev pub not_run : Listed → State → ListingOutcome
+abbrev pub not_run : Result ⊤ ListingRefusal → State → ListingOutcome
 not_run a t = record { run = record { words = 0; answer = a }; state = t }
 
 -- words were run
 abbrev pub ended : Ran → ListingOutcome
-ended r = record { run = record { words = r.words; answer = Ended r.ending.answer }; state = r.ending.state }
+ended r = record { run = record { words = r.words; answer = as_listed r.ending.answer }; state = r.ending.state }
 
 -- the lengths of buffers are right
 abbrev pub right_lengths : Settings → State → Bool
@@ -44,5 +45,5 @@ allowed_in l allowance = take allowance (words_in l)
 
 unfoldable pub listing_of : Settings → List ℕ → ℕ → State → ListingOutcome
 listing_of s l allowance t =
-    if_done (buffers_checked s t) (not_run (Ended (buffers_checked s t)) t)
-    (cond (is_whole l) (ended (run_of s (allowed_in l allowance) t)) (not_run BadListing t))
+    if_done (buffers_checked s t) (not_run (as_listed (buffers_checked s t)) t)
+    (cond (is_whole l) (ended (run_of s (allowed_in l allowance) t)) (not_run (Err BadListing) t))

@@ -1,47 +1,55 @@
 // The answer of a listing (request 5).
 ghost use Rattle.std.specs.Prelude.{◌≡◌};
-ghost use Rattle.listing.specs.Answer.{listed_number, listed_fault};
+ghost use Rattle.listing.specs.Answer.{listing_refusal_number, listing_refusal_fault};
+ghost use Rattle.listing.specs.declared.answer.ListingRefusal.TheVariants.{Refused};
 
-use semantics::{Fault, Refusal, answer_number, fault_of};
+use semantics::{Fault, Refusal};
 
-// How a listing ended.
-#[derive(Clone, Copy)]
-pub enum Listed {
+// Why a listing did not go on.
+#[derive(Clone, Copy, Debug, PartialEq, Eq)]
+pub enum ListingRefusal {
     // Its length is not a multiple of 4: no word was run.
     BadListing,
-    // As a word is answered: by the refusal of settings or lengths, before any word was run, or of a word; or done, at the
-    // end or at the allowance.
-    Ended(Result<(), Refusal>),
+    // As a word is refused: for settings or lengths, before any word was run, or the word itself.
+    Refused(Refusal),
 }
 
-// How many words were done, and the answer.
-#[derive(Clone, Copy)]
+// How many words were done, and the answer: done at the end or at the allowance. The count stands beside the answer and not inside Ok: words before a
+// refused one count too (`RunsListing`).
+#[derive(Clone, Copy, Debug, PartialEq, Eq)]
 pub struct ListingRun {
     pub words: u64,
-    pub answer: Listed,
+    pub answer: Result<(), ListingRefusal>,
 }
 
-impl Listed {
-    // The answer's number of document 01 §6, and 9.
-    pub fn number(self) -> u32
-        ensures { result ≡ listed_number self }
-    {
-        match self {
-            Listed::BadListing => 9,
-            Listed::Ended(answer) => answer_number(answer),
+impl From<Refusal> for ListingRefusal {
+    ghost from_gives = { λ refusal listing_refusal. listing_refusal ≡ Refused refusal };
+
+    fn from(refusal: Refusal) -> ListingRefusal {
+        Self::Refused(refusal)
+    }
+}
+
+// The answer's number of document 01 §6, and 9.
+impl From<ListingRefusal> for u32 {
+    ghost from_gives = { λ refusal number. number ≡ listing_refusal_number refusal };
+
+    fn from(refusal: ListingRefusal) -> u32 {
+        match refusal {
+            ListingRefusal::BadListing => 9,
+            ListingRefusal::Refused(refusal) => u32::from(refusal),
         }
     }
+}
 
-    // What answer 7 carries, zeros with every other (request 6).
-    pub fn fault(self) -> Fault
-        ensures { result ≡ listed_fault self }
-    {
-        match self {
-            Listed::BadListing => Fault {
-                address: 0,
-                element: 0,
-            },
-            Listed::Ended(answer) => fault_of(answer),
+// What answer 7 carries, zeros with every other (request 6).
+impl From<ListingRefusal> for Fault {
+    ghost from_gives = { λ refusal fault. fault ≡ listing_refusal_fault refusal };
+
+    fn from(refusal: ListingRefusal) -> Fault {
+        match refusal {
+            ListingRefusal::BadListing => Fault::NONE,
+            ListingRefusal::Refused(refusal) => refusal.into(),
         }
     }
 }

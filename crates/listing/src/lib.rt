@@ -1,5 +1,5 @@
 // A listing, run in one call (request 5): settings and lengths are checked once, and then its words are performed one after
-// another, up to the first that is not done.
+// another, up to the first that is not done. Settings and buffers stay parameters, as perform.rt of execute says.
 #![tactic(auto)]
 
 ghost use Rattle.std.specs.Prelude.{◌≡◌, ◌*◌, ◌/◌, ◌≤◌, min, length};
@@ -16,7 +16,7 @@ use settings::Settings;
 mod answer;
 mod word;
 
-pub use answer::{Listed, ListingRun};
+pub use answer::{ListingRefusal, ListingRun};
 
 // Runs a listing on buffers that the host lends, as `execute` does for one word: at most as many words as the allowance says,
 // up to the first that is not done. What words did before a refused one stays. Every listing, allowance, setting and buffer
@@ -41,16 +41,16 @@ pub fn run(
         za.len(),
         memory.len(),
     );
-    let Ok(()) = checked else {
+    if let Err(refusal) = checked {
         return ListingRun {
             words: 0,
-            answer: Listed::Ended(checked),
+            answer: Err(refusal.into()),
         };
-    };
+    }
     if listing.len() % 4 != 0 {
         return ListingRun {
             words: 0,
-            answer: Listed::BadListing,
+            answer: Err(ListingRefusal::BadListing),
         };
     }
     let n = allowed_words(listing.len(), allowance);
@@ -61,11 +61,7 @@ pub fn run(
 fn allowed_words(bytes: usize, allowance: u64) -> usize
     ensures { result ≡ min allowance (bytes / 4) }
 {
-    let words = bytes / 4;
-    if allowance < words as u64 {
-        return allowance as usize;
-    }
-    words
+    allowance.min(bytes as u64 / 4) as usize
 }
 
 // Performs the first n words of a listing one after another, up to the first that is not done.
@@ -82,20 +78,17 @@ fn perform_words(
     requires { Sized settings (length x.now) (length z.old) (length p.now) (length za.old) (length memory.old) × (4 * n ≤ length listing.now) }
     ensures { EndsAs (run_of settings (words_from listing.now 0 n) (state_of x.now z.old p.now za.old memory.old)) result (state_of x.now z.new p.now za.new memory.new) }
 {
-    let mut i = 0;
-    while i < n {
+    for i in 0..n {
         let word = word_at(listing, i);
-        let answer = execute::perform::perform(settings, word, x, z, p, za, memory);
-        let Ok(()) = answer else {
+        if let Err(refusal) = execute::perform::perform(settings, word, x, z, p, za, memory) {
             return ListingRun {
                 words: i as u64,
-                answer: Listed::Ended(answer),
+                answer: Err(refusal.into()),
             };
-        };
-        i += 1;
+        }
     }
     ListingRun {
         words: n as u64,
-        answer: Listed::Ended(Ok(())),
+        answer: Ok(()),
     }
 }

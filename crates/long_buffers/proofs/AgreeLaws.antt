@@ -1,6 +1,6 @@
 -- Two states that agree within B: what is active is the same in both, so is the answer, and each operation writes the same within B.
 -- Assumes nothing.
-use Rattle.std.specs.Prelude.{Result, ⊤}
+use Rattle.std.specs.Prelude.{Result, ⊤, Ok, Err}
 use Prim.Native.Nat.{ℕ, ◌*◌, ◌/◌, ◌%◌, ◌^◌, ◌<◌}
 use mathlib.Core.Path.{◌≡◌, refl, sym, ap, ◌∙◌}
 use mathlib.Core.Bool.{Bool, true, cond, ◌&&◌, not}
@@ -31,8 +31,6 @@ use Rattle.encoding.specs.declared.operation.ArrayToVectors.{ArrayToVectors}
 use Rattle.encoding.specs.declared.operation.SliceAccess.{SliceAccess}
 use Rattle.encoding.specs.declared.operation.Operation.{Operation}
 use Rattle.encoding.specs.declared.operation.Operation.TheVariants.{MovaToTile, MovazFromTile, MovaFromArray, MovazFromArray, St1, MovaFromTile, Ld1}
-use Rattle.encoding.specs.declared.operation.Decoded.{Decoded}
-use Rattle.encoding.specs.declared.operation.Decoded.TheVariants as decoded
 use Rattle.semantics.specs.declared.answer.Refusal.{Refusal}
 use Rattle.semantics.specs.declared.answer.Refusal.TheVariants.{StreamingOff, ZaOff, StackMisaligned}
 use Rattle.semantics.specs.State.{State, state_of, public_of}
@@ -41,6 +39,8 @@ use Rattle.semantics.specs.Effect.{active_under, slice_byte, group_byte, memory_
 use Rattle.semantics.specs.Execute.{guard, fault_answer, fault_of, faulting, access_active, access_answer, operation_answer, word_answer}
 use Rattle.long_buffers.specs.Within.{AgreeWithin}
 use Rattle.long_buffers.proofs.PlaceLaws.{Inside, slice_inside, group_inside}
+use Rattle.encoding.specs.declared.operation.DecodeRefusal.{DecodeRefusal}
+use Rattle.encoding.specs.declared.operation.DecodeRefusal.TheVariants.{BadLevel, Undecodable}
 
 -- the two states: X and memory are the same
 module _ (s : Settings) (laid : valid_vectors s ≡ true) (x z z' p p' za za' memory : List ℕ) (agree : AgreeWithin s (state_of x z p za memory) (state_of x z' p' za' memory)) where
@@ -82,10 +82,10 @@ module _ (s : Settings) (laid : valid_vectors s ≡ true) (x z z' p p' za za' me
   operation_same (MovaFromTile o) = refl
   operation_same (Ld1 o) = access_same o
 
-  pub word_same : (d : Decoded) → word_answer s x p (length memory) d ≡ word_answer s x p' (length memory) d
-  word_same (decoded.Done o) = ap (λ (a : Result ⊤ Refusal). guard s.streaming StreamingOff (guard s.za ZaOff a)) (operation_same o)
-  word_same decoded.BadLevel = refl
-  word_same decoded.Undecodable = refl
+  pub word_same : (d : Result Operation DecodeRefusal) → word_answer s x p (length memory) d ≡ word_answer s x p' (length memory) d
+  word_same (Ok o) = ap (λ (a : Result ⊤ Refusal). guard s.streaming StreamingOff (guard s.za ZaOff a)) (operation_same o)
+  word_same (Err BadLevel) = refl
+  word_same (Err Undecodable) = refl
 
   -- ---- what is read
 

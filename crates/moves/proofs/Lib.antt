@@ -1,5 +1,5 @@
 pub mod BlockLaws
-mod PartLaws
+pub mod PartLaws
 mod EightLaws
 mod MaskLaws
 pub mod SpanLaws

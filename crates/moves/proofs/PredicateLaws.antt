@@ -47,6 +47,10 @@ module _ (s : Settings) (laid : valid_vectors s ≡ true) (p : List ℕ) (long :
   part_length : length part ≡ B / 8
   part_length = lent_length start (B / 8) p part_within
 
+  -- it has a bit for each byte of the vector
+  pub part_bits_lent : B ≡ 8 * length part
+  part_bits_lent = rw part_length (omega (arith, (whole_elements Bits8 B valid).eights))
+
   pub part_governs : (v : Span) (m : ℕ) → v.count * m ≡ B → Governed v m part
   part_governs v m e =
       let w = whole_elements Bits8 B valid in

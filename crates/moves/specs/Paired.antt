@@ -1,8 +1,9 @@
 -- What the functions of this crate rely on, for elements of m bytes. Only contracts between crates of this project cite these.
 -- Assumes nothing.
-use Rattle.std.specs.Prelude.{◌≡◌, Bool, cond, ◌&&◌, ◌||◌, List, ℕ, ◌+◌, ◌*◌, ◌/◌, ◌%◌, ◌^◌, ◌≤◌, ◌<◌, eqb, ltb, length, get_or}
+use Rattle.std.specs.Prelude.{◌≡◌, Bool, cond, ◌&&◌, ◌||◌, List, ℕ, ◌+◌, ◌-◌, ◌*◌, ◌/◌, ◌%◌, ◌^◌, ◌≤◌, ◌<◌, eqb, ltb, length, get_or, take, drop}
 use Rattle.general.specs.Scatter.{scatter}
-use Rattle.settings.specs.Settings.{max_vector_bytes}
+use Rattle.settings.specs.Settings.{max_vector_bytes, stride_of}
+use Rattle.settings.specs.declared.Settings.{Settings}
 use Rattle.tiles.specs.Span.{span_at, Within}
 use Rattle.tiles.specs.declared.span.Span.{Span}
 use Rattle.moves.specs.Eights.{InEights}
@@ -18,6 +19,10 @@ pub record Paired (to from : Span) (m ld ls : ℕ) : Type 0 where
 pub record Governed (to : Span) (m : ℕ) (p : List ℕ) : Type 0 where
   pub bytes : to.count * m ≡ 8 * length p
   pub eights : InEights p
+
+-- the predicate bytes of register pg that govern a vector, of P
+abbrev pub governing_part : Settings → ℕ → List ℕ → List ℕ
+governing_part s pg p = let start = pg * (stride_of s / 8) in take (start + s.vector_bytes / 8 - start) (drop start p)
 
 -- the elements of both follow each other without a gap; they are merged so if they have at most 4 bytes
 abbrev pub are_runs : Span → Span → ℕ → Bool

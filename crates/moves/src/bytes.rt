@@ -1,4 +1,4 @@
-// Runs of bytes, copied or set to zero.
+// Runs of bytes, copied or set to zero. A run is a start and a length beside its buffer: with slices every caller cuts two parts first.
 ghost use Rattle.std.specs.Prelude.{◌≡◌, ℕ, ◌+◌, ◌≤◌, length, get_or};
 ghost use Rattle.settings.specs.Settings.{max_vector_bytes};
 ghost use Rattle.general.specs.Scatter.{scatter, all, zeros, onwards};
@@ -27,7 +27,7 @@ pub(crate) fn copy_vector(dst: &mut [u8], at_dst: usize, src: &[u8], at_src: usi
     copy_bytes(dst, at_dst, &part, 0, n);
 }
 
-// Sets n bytes of dst, from index at on, to zero. By `fill` columns that are taken took up to 1.24 times the instructions.
+// Sets n bytes of dst, from index at on, to zero. By `fill` it was up to 1.24 times the instructions in cases measured.
 pub(crate) fn clear_bytes(dst: &mut [u8], at: usize, n: usize)
     requires { at + n ≤ length dst.old }
     ensures { dst.new ≡ scatter (onwards at) all zeros n dst.old }

@@ -42,7 +42,7 @@ pub(crate) fn choose(on: bool, a: u8, b: u8) -> u8
 }
 
 // Copies n bytes, at most 16, where the test holds; where it fails they stay, or become zero. Each way they are written,
-// without a branch.
+// without a branch. No zip: of both buffers a part would be cut first, to be read beside the local array: no plainer.
 pub(crate) fn merge_bytes(
     dst: &mut [u8],
     at_dst: usize,

@@ -1,7 +1,9 @@
 // Elements moved from one place to another, wherever they lie: rows and columns of tiles, registers, vectors of the ZA array
 // and stretches of memory are all a Span of the crate tiles. Each function is a `scatter` of the crate general; ranges are
-// required, since only crates of this project call them. Two buffers and two spans stay parameters: `Paired` would be only in part
-// the invariant of a struct of them, since the buffer that is written is lent, and in `take` the other too.
+// required, since only crates of this project call them.
+// Buffers, spans and predicate stay parameters: docs/PROOFS.md names copy, take, merge, replace and replace_partly, and a type
+// that holds `Paired` or `Governed` would ask more of whoever calls them; below them a record that a call takes goes through
+// memory (`anew`).
 #![tactic(auto)]
 
 ghost use Rattle.std.specs.Prelude.{◌≡◌, true, false, ◌*◌, ◌≤◌, length};
@@ -21,10 +23,13 @@ use tiles::{ElementSize, Span};
 mod apart;
 mod bytes;
 mod element;
+mod governing;
 mod merge_apart;
 mod predicate;
 mod run;
 mod size_bits;
+
+pub use governing::governing_bytes;
 
 // Whether the elements of both follow each other without a gap.
 fn are_runs(a: Span, b: Span, size: ElementSize) -> bool

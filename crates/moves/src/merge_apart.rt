@@ -47,8 +47,8 @@ fn part(span: Span, e: usize, count: usize) -> Span
     }
 }
 
-// Merges elements of m bytes, of which `per` go by one predicate byte. Callers write both out, so that each size has a loop of
-// its own; as const parameters they made loads of columns of bytes take up to 1.15 times the instructions.
+// Merges elements of m bytes, of which `per` go by one predicate byte. `merge_sized` writes both out, so that each size has a loop
+// of its own; as const parameters they made loads of columns of bytes take up to 1.15 times the instructions.
 #[tactic(auto, using(crate::proofs::GroupLaws::group_small, crate::proofs::GroupLaws::group_index, crate::proofs::GroupLaws::group_first, crate::proofs::SpanLaws::writes, crate::proofs::SpanLaws::reads))]
 fn merge_apart(
     dst: &mut [u8],

@@ -11,16 +11,7 @@ pub(crate) fn eight(p: &[u8], at: usize) -> u64
     requires { at + 8 ≤ length p.now }
     ensures { result ≡ eight_at p.now at }
 {
-    u64::from_le_bytes([
-        p[at],
-        p[at + 1],
-        p[at + 2],
-        p[at + 3],
-        p[at + 4],
-        p[at + 5],
-        p[at + 6],
-        p[at + 7],
-    ])
+    u64::from_le_bytes(p[at..at + 8].try_into().unwrap())
 }
 
 // The bits of eight predicate bytes that elements of a size go by. The usual all-true predicate of a size has these and no others.
@@ -38,6 +29,9 @@ pub(crate) fn element_bits(size: ElementSize) -> u64
 }
 
 // Whether every element is active, as eight predicate bytes at a time tell; no where there are fewer than eight, whatever they are.
+// By index: over `chunks_exact(8)` `returns-then-p-ge8` did not close (std has no `YieldsList` of exact chunks), and `eight` would
+// be given an index that is always 0: no plainer.
+// `InEights` stays a clause: p is a borrowed part, and a struct for it would only wrap the slice.
 pub(crate) fn is_full(p: &[u8], size: ElementSize) -> bool
     requires { InEights p.now }
     ensures { result ≡ true → AllActive p.now size }

@@ -5,7 +5,9 @@
 // without a branch. What is left goes by predicate byte.
 //
 // Buffers and predicate stay parameters: as one struct with `bits` they are too much for the compiler to copy `merge_by_byte` into
-// its callers, which took up to 1.3 times the instructions.
+// its callers, which took up to 1.3 times the instructions. From `merge_part` on they are whole, with an index and not as zipped
+// chunks: three slices would be cut in step, one of them lent for writing, and each cut is a proof that it is within: no plainer.
+// `InEights` is a clause and no type: p is a borrowed part, so a struct would only wrap the slice; `merge_run` passes the fact on.
 ghost use Rattle.std.specs.Prelude.{◌≡◌, cond, ℕ, ◌+◌, ◌*◌, ◌≤◌, ◌<◌, length, get_or};
 ghost use Rattle.std.specs.Int.Bits.{bit_and};
 ghost use Rattle.settings.specs.Settings.{max_vector_bytes};
@@ -24,6 +26,7 @@ use tiles::ElementSize;
 
 // Merges N bytes by the predicate bytes `by`, of which each has some of the bits that elements go by, and not all: each byte is
 // tested by its mask, all are read, then all are written. The one test of single elements in this file.
+// No zip: a predicate byte goes for eight masks, and both buffers are read from an index on: no plainer.
 fn merge_mixed<const N: usize>(
     dst: &mut [u8],
     at_dst: usize,
@@ -62,8 +65,7 @@ fn merge_by_byte(dst: &mut [u8], src: &[u8], p: &[u8], first: usize, n: usize, b
     requires { Covered p.now first n dst.old src.now }
     ensures { dst.new ≡ merged_by p.now bits.size src.now first n dst.old }
 {
-    for j in 0..n {
-        let i = first + j;
+    for i in first..first + n {
         merge_byte(dst, i * 8, src, i * 8, p[i] & bits.one(), bits);
     }
 }

@@ -9,7 +9,7 @@ use tiles::ElementSize;
 
 // The bits that elements of a size go by, which is one of at most 4 bytes: those of eight predicate bytes as one number, and as
 // masks. Mask i has one bit, by which byte i of 16 goes, bit i / m * m mod 8 of its predicate byte.
-#[derive(Clone, Copy)]
+#[derive(Clone, Copy, Debug, PartialEq, Eq)]
 pub(crate) struct SizeBits {
     pub(crate) size: ElementSize,
     pub(crate) eight: u64,

@@ -13,7 +13,7 @@ use Rattle.std.specs.List.{list_any}
 use lib.ListN.{length, get_or, take, drop}
 use lib.Seq.{drop-cons, drop-drop, get_or-take, length-take-le}
 use borrow.Author.Tests.{leb-true}
-use Rattle.general.proofs.BoolLaws.{and_parts, refute, clash}
+use Rattle.general.proofs.BoolLaws.{and_parts}
 use Rattle.planner.specs.Tile.{no_tile, is_tile, shares, is_free, is_valid}
 use Rattle.planner.specs.Held.{held_tiles, valid_held}
 use Rattle.planner.specs.declared.tile.Tile.{Tile}
@@ -100,26 +100,8 @@ module _ (ts : List Tile) (n i j : ℕ) (s : i + 1 ≡ j) (w : i < n) (h : n ≤
   held_step : drop i (take n ts) ≡ get_or ts i no_tile ∷ drop j (take n ts)
   held_step = drop-cons (take n ts) i no_tile (rw (length-take-le n ts h) w) ∙ rw (get_or-take n ts i no_tile w, ← s, add-one i)
 
-  pub free_stops : (x : Tile) → shares x (get_or ts i no_tile) ≡ true → is_free (drop i (take n ts)) x ≡ false
-  unfolding is_free
-  free_stops x e = rw (held_step, e)
-
-  pub free_goes_on : (x : Tile) → shares x (get_or ts i no_tile) ≡ false → is_free (drop i (take n ts)) x ≡ is_free (drop j (take n ts)) x
-  unfolding is_free
-  free_goes_on x e = rw (held_step, e)
-
-  pub valid_back : is_tile (get_or ts i no_tile) ≡ true → is_free (drop j (take n ts)) (get_or ts i no_tile) ≡ true →
-      is_valid (drop j (take n ts)) ≡ true → is_valid (drop i (take n ts)) ≡ true
-  valid_back p q r = rw held_step (valid_cons _ _ p q r)
-
   valid_at : is_valid (drop i (take n ts)) ≡ true → (is_tile (get_or ts i no_tile) ≡ true) × (is_free (drop j (take n ts)) (get_or ts i no_tile) ≡ true)
   valid_at e = let p = valid_head _ _ (rw held_step at e) in (p.0, p.1)
-
-  pub invalid_tile : is_tile (get_or ts i no_tile) ≡ false → is_valid (take n ts) ≡ false
-  invalid_tile e = refute _ (λ v. clash _ (valid_at (valid_drop i (take n ts) v)).0 e)
-
-  pub invalid_shared : is_free (drop j (take n ts)) (get_or ts i no_tile) ≡ false → is_valid (take n ts) ≡ false
-  invalid_shared e = refute _ (λ v. clash _ (valid_at (valid_drop i (take n ts) v)).1 e)
 
 -- every tile of a valid list exists
 pub valid_tiles : (ts : List Tile) (n i j : ℕ) → is_valid (drop i (take n ts)) ≡ true → i ≤ j → j < n → n ≤ length ts → is_tile (get_or ts j no_tile) ≡ true
@@ -136,6 +118,3 @@ pub record Valid (h : Held) : Type 0 where
 
 pub valid_held_lem : (h : Held) → valid_held h ≡ true → Valid h
 valid_held_lem h v = let p = and_parts (leb h.count 16) (is_valid (held_tiles h)) v in record { few = leb-true _ _ p.0; list = p.1 }
-
-pub invalid_held : (h : Held) → is_valid (held_tiles h) ≡ false → valid_held h ≡ false
-invalid_held h e = refute _ (λ v. clash _ (valid_held_lem h v).list e)

@@ -12,7 +12,7 @@ pub enum TileRefusal {
     NoFreeTile,
 }
 
-// A tile that was taken, and the held tiles with it.
+// A tile that was taken, and the held tiles with it. No equality, since `Held` has none.
 #[derive(Clone, Copy)]
 pub struct Taken {
     pub number: u64,

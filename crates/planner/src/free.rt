@@ -1,4 +1,5 @@
 // The search for a free tile by halves (document 01 §10, request 9). A part is a sixteenth of ZA, as in specs/Tile.antt.
+// `asked` and `parts` are numbers and no ElementSize: parts are sixteenths of ZA, which request 9 counts in numbers, and no sizes of elements.
 ghost use Rattle.std.specs.Prelude.{◌≡◌, true, ◌/◌, ◌<◌, ◌≤◌};
 ghost use Rattle.planner.specs.Tile.{is_size, is_valid};
 ghost use Rattle.planner.specs.Steps.{lowest_in};

@@ -7,6 +7,7 @@ use crate::tile::{Tile, is_shared, is_tile};
 
 // The first `count` of sixteen tiles: no more can be held, since no more can share no byte.
 // An array with a count, and no `ArrayVec`: `counts`, `kept_count` and `many` (specs/Examples.antt here, specs/Claims.antt of lent_tiles) are of counts above sixteen.
+// No equality: what stands after the held tiles does not count.
 #[derive(Clone, Copy)]
 pub struct Held {
     pub tiles: [Tile; 16],
@@ -15,7 +16,7 @@ pub struct Held {
 
 impl Held {
     // No tile is held.
-    pub const NONE: Held = Held {
+    pub(crate) const NONE: Held = Held {
         tiles: [Tile::NONE; 16],
         count: 0,
     };

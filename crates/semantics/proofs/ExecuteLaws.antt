@@ -6,7 +6,6 @@ use mathlib.Core.Path.{◌≡◌, refl, sym, ap, ◌∙◌, subst}
 use mathlib.Core.Bool.{Bool, true, false, cond, ◌&&◌, not, and-eq-true_iff, true≢false}
 use mathlib.Core.List.{[]}
 use mathlib.Core.Option.{Option, none, some}
-use native.Mathlib.Omega.{arith}
 use lib.Dec.{eqb, leb}
 use lib.ListN.{length}
 use borrow.Author.Tests.{eqb-true, leb-true, eq-eqb, le-leb}
@@ -18,8 +17,6 @@ use Rattle.encoding.specs.Codec.{decode_of}
 use Rattle.encoding.specs.declared.operation.SliceAccess.{SliceAccess}
 use Rattle.encoding.specs.declared.operation.Operation.{Operation}
 use Rattle.encoding.specs.declared.operation.Operation.TheVariants.{MovaToTile, MovazFromTile, MovaFromArray, MovazFromArray, St1, MovaFromTile, Ld1}
-use Rattle.encoding.specs.declared.operation.Decoded.{Decoded}
-use Rattle.encoding.specs.declared.operation.Decoded.TheVariants as decoded
 use Rattle.semantics.specs.declared.answer.Refusal.{Refusal}
 use Rattle.semantics.specs.declared.answer.Refusal.TheVariants.{BadSettings, BadLengths, StreamingOff, ZaOff, StackMisaligned}
 use Rattle.semantics.specs.Answer.{refusal_answer, executed_answer}
@@ -28,6 +25,8 @@ use Rattle.semantics.specs.Effect.{effect_of}
 use Rattle.semantics.specs.Execute.{guard, valid_lengths, buffers_answer, fault_of, fault_answer, stack_bad, access_answer, operation_answer, word_answer, answer_of, word_effect, if_done, execute_of}
 use Rattle.semantics.specs.Lines.{first_line, access_of, fault_values, access_lines, word_lines, answer_in_numbers}
 use Rattle.semantics.specs.Steps.{Sized}
+use Rattle.encoding.specs.declared.operation.DecodeRefusal.{DecodeRefusal}
+use Rattle.encoding.specs.declared.operation.DecodeRefusal.TheVariants.{BadLevel, Undecodable}
 
 -- ---- guard
 
@@ -108,7 +107,7 @@ module _ (s : Settings) (u : Public) where
       go false none = refl
       go false (some k) = refl
 
-  operation_lines : (o : Operation) → executed_answer (operation_answer s u.x u.p u.memory_length o) ≡ first_line (access_lines s u (access_of (decoded.Done o)))
+  operation_lines : (o : Operation) → executed_answer (operation_answer s u.x u.p u.memory_length o) ≡ first_line (access_lines s u (access_of (Ok o)))
   operation_lines (MovaToTile o) = refl
   operation_lines (MovazFromTile o) = refl
   operation_lines (MovaFromArray o) = refl
@@ -117,10 +116,10 @@ module _ (s : Settings) (u : Public) where
   operation_lines (MovaFromTile o) = refl
   operation_lines (Ld1 o) = access_lines_lem o
 
-  word_lines_lem : (d : Decoded) → executed_answer (word_answer s u.x u.p u.memory_length d) ≡ first_line (word_lines s u d)
-  word_lines_lem (decoded.Done o) = guard_line s.streaming StreamingOff _ _ (guard_line s.za ZaOff _ _ (operation_lines o))
-  word_lines_lem decoded.BadLevel = refl
-  word_lines_lem decoded.Undecodable = refl
+  word_lines_lem : (d : Result Operation DecodeRefusal) → executed_answer (word_answer s u.x u.p u.memory_length d) ≡ first_line (word_lines s u d)
+  word_lines_lem (Ok o) = guard_line s.streaming StreamingOff _ _ (guard_line s.za ZaOff _ _ (operation_lines o))
+  word_lines_lem (Err BadLevel) = refl
+  word_lines_lem (Err Undecodable) = refl
 
   -- both definitions of the answer agree
   pub answers_agree : (w : ℕ) → executed_answer (answer_of s w u) ≡ answer_in_numbers s w u
@@ -140,7 +139,7 @@ module _ (s : Settings) (w : ℕ) (t : State) where
   pub record Does (o : Operation) : Type 0 where
     pub answer : (execute_of s w t).answer ≡ Ok tt
     pub sized : SizedAt s t
-    pub decoded : decode_of w s.level ≡ decoded.Done o
+    pub decoded : decode_of w s.level ≡ Ok o
     pub state : (execute_of s w t).state ≡ effect_of s o t
 
   -- an execution is done, with an operation, or leaves the state as it was
@@ -149,10 +148,10 @@ module _ (s : Settings) (w : ℕ) (t : State) where
     stays : (r : Refusal) → (execute_of s w t).answer ≡ Err r → (execute_of s w t).state ≡ t → Ends
 
   -- a done answer comes from a decoded operation
-  operation_done : (d : Decoded) → word_answer s t.x t.p (length t.memory) d ≡ Ok tt → (o : Operation) × (d ≡ decoded.Done o)
-  operation_done (decoded.Done o) e = (o, refl)
-  operation_done decoded.BadLevel e = absurd (refused_not_done _ e)
-  operation_done decoded.Undecodable e = absurd (refused_not_done _ e)
+  operation_done : (d : Result Operation DecodeRefusal) → word_answer s t.x t.p (length t.memory) d ≡ Ok tt → (o : Operation) × (d ≡ Ok o)
+  operation_done (Ok o) e = (o, refl)
+  operation_done (Err BadLevel) e = absurd (refused_not_done _ e)
+  operation_done (Err Undecodable) e = absurd (refused_not_done _ e)
 
   pub ends : Ends
   unfolding execute_of answer_of
@@ -169,7 +168,7 @@ module _ (s : Settings) (w : ℕ) (t : State) where
             decoded = o.1;
             state =
                 ap (λ (a : Result ⊤ Refusal). if_done a t (word_effect s (decode_of w s.level) t)) e ∙
-                ap (λ (d : Decoded). word_effect s d t) o.1;
+                ap (λ (d : Result Operation DecodeRefusal). word_effect s d t) o.1;
           })
       go (Err r) e = stays r e (ap (λ (a : Result ⊤ Refusal). if_done a t (word_effect s (decode_of w s.level) t)) e)
 
@@ -179,7 +178,7 @@ module _ (s : Settings) (w : ℕ) (t : State) where
   sized_answer h = buffers_rest s _ _ _ _ _ _ h
 
   -- an execution of an operation with streaming and ZA on answers what the operation answers
-  pub operation_answer_lem : (o : Operation) → SizedAt s t → decode_of w s.level ≡ decoded.Done o → s.streaming ≡ true → s.za ≡ true → (execute_of s w t).answer ≡ operation_answer s t.x t.p (length t.memory) o
+  pub operation_answer_lem : (o : Operation) → SizedAt s t → decode_of w s.level ≡ Ok o → s.streaming ≡ true → s.za ≡ true → (execute_of s w t).answer ≡ operation_answer s t.x t.p (length t.memory) o
   operation_answer_lem o h dec on za =
       let rest = operation_answer s t.x t.p (length t.memory) o in
       sized_answer h ∙
@@ -188,14 +187,14 @@ module _ (s : Settings) (w : ℕ) (t : State) where
       ap (λ (b : Bool). guard b ZaOff rest) za
 
   -- a done execution of a word that decodes to an operation is done with that operation
-  pub does_operation : (o : Operation) → decode_of w s.level ≡ decoded.Done o → (execute_of s w t).answer ≡ Ok tt → Does o
+  pub does_operation : (o : Operation) → decode_of w s.level ≡ Ok o → (execute_of s w t).answer ≡ Ok tt → Does o
   does_operation o d e = go ends
     where
       -- the operation of a decoded word; o where there is none
-      held : Decoded → Operation
-      held (decoded.Done q) = q
-      held decoded.BadLevel = o
-      held decoded.Undecodable = o
+      held : Result Operation DecodeRefusal → Operation
+      held (Ok q) = q
+      held (Err BadLevel) = o
+      held (Err Undecodable) = o
 
       go : Ends → Does o
       go (does q h) = subst Does (ap held (sym h.decoded ∙ d)) h

@@ -1,5 +1,6 @@
 -- Each test of the answer says what its reason in specs/Reasons.antt says, and the first that applies gives the number.
 -- Assumes nothing.
+use Rattle.std.specs.Prelude.{Result, Ok, Err}
 use Prim.Native.Nat.{ℕ, zero, suc, ◌+◌, ◌*◌, ◌/◌, ◌%◌, ◌^◌, ◌<◌, ◌≤◌}
 use mathlib.Core.Path.{◌≡◌, refl, sym, ap, ◌∙◌}
 use mathlib.Core.Bool.{Bool, true, false, cond, ◌&&◌, not, true≢false}
@@ -31,13 +32,13 @@ use Rattle.encoding.specs.Codec.{decode_of}
 use Rattle.encoding.specs.declared.operation.SliceAccess.{SliceAccess}
 use Rattle.encoding.specs.declared.operation.Operation.{Operation}
 use Rattle.encoding.specs.declared.operation.Operation.TheVariants.{MovaToTile, MovazFromTile, MovaFromArray, MovazFromArray, St1, MovaFromTile, Ld1}
-use Rattle.encoding.specs.declared.operation.Decoded.{Decoded}
-use Rattle.encoding.specs.declared.operation.Decoded.TheVariants.{Done, BadLevel, Undecodable}
 use Rattle.semantics.specs.Access.{address_of, element_of, in_memory}
 use Rattle.semantics.specs.Execute.{valid_lengths, access_active, faulting, fault_of, misaligned, execute_of}
 use Rattle.semantics.specs.Operations.{elements_in, Active, address_in}
 use Rattle.semantics.specs.Lines.{AnswerLine, line_with, first_line, is_operation, access_of, stack_is_bad, fault_in, fault_values, answer_in_numbers}
 use Rattle.semantics.specs.Reasons.{ReasonAt, SettingsBad, LengthsBad, NotInMemory, StackBad, ByteOutside, reasons, given, GivenExactly, FirstOutside, FaultTold, RefusalKeeps}
+use Rattle.encoding.specs.declared.operation.DecodeRefusal.{DecodeRefusal}
+use Rattle.encoding.specs.declared.operation.DecodeRefusal.TheVariants.{BadLevel, Undecodable}
 
 -- ---- the first of some tests
 
@@ -200,32 +201,32 @@ module _ (s : Settings) (w : ℕ) (t : State) where
       go (inr (inr (inr (inr l)))) f = omega (arith, f.4)
 
 -- 3
-no_operation : (d : Decoded) → not (is_operation d) ≡ true → (o : Operation) → d ≡ Done o → ⊥
-no_operation d e o q = true≢false (sym e ∙ ap (λ (d : Decoded). not (is_operation d)) q)
+no_operation : (d : Result Operation DecodeRefusal) → not (is_operation d) ≡ true → (o : Operation) → d ≡ Ok o → ⊥
+no_operation d e o q = true≢false (sym e ∙ ap (λ (d : Result Operation DecodeRefusal). not (is_operation d)) q)
 
-operation_none : (d : Decoded) → ((o : Operation) → d ≡ Done o → ⊥) → not (is_operation d) ≡ true
-operation_none (Done o) h = absurd (h o refl)
-operation_none BadLevel h = refl
-operation_none Undecodable h = refl
+operation_none : (d : Result Operation DecodeRefusal) → ((o : Operation) → d ≡ Ok o → ⊥) → not (is_operation d) ≡ true
+operation_none (Ok o) h = absurd (h o refl)
+operation_none (Err BadLevel) h = refl
+operation_none (Err Undecodable) h = refl
 
 -- ---- loads and stores
 
 -- a word that decodes to d is the load or store o
-abbrev AccessIn : Decoded → SliceAccess → Type 0
-AccessIn d o = (d ≡ Done (St1 o)) ⊎ (d ≡ Done (Ld1 o))
+abbrev AccessIn : Result Operation DecodeRefusal → SliceAccess → Type 0
+AccessIn d o = (d ≡ Ok (St1 o)) ⊎ (d ≡ Ok (Ld1 o))
 
-access_is : (d : Decoded) (o : SliceAccess) → access_of d ≡ some o → AccessIn d o
-access_is (Done (MovaToTile q)) o e = absurd (none_some e)
-access_is (Done (MovazFromTile q)) o e = absurd (none_some e)
-access_is (Done (MovaFromArray q)) o e = absurd (none_some e)
-access_is (Done (MovazFromArray q)) o e = absurd (none_some e)
-access_is (Done (St1 q)) o e = inl (ap (λ (a : SliceAccess). Done (St1 a)) (some-injective q o e))
-access_is (Done (MovaFromTile q)) o e = absurd (none_some e)
-access_is (Done (Ld1 q)) o e = inr (ap (λ (a : SliceAccess). Done (Ld1 a)) (some-injective q o e))
-access_is BadLevel o e = absurd (none_some e)
-access_is Undecodable o e = absurd (none_some e)
+access_is : (d : Result Operation DecodeRefusal) (o : SliceAccess) → access_of d ≡ some o → AccessIn d o
+access_is (Ok (MovaToTile q)) o e = absurd (none_some e)
+access_is (Ok (MovazFromTile q)) o e = absurd (none_some e)
+access_is (Ok (MovaFromArray q)) o e = absurd (none_some e)
+access_is (Ok (MovazFromArray q)) o e = absurd (none_some e)
+access_is (Ok (St1 q)) o e = inl (ap (λ (a : SliceAccess). Ok (St1 a)) (some-injective q o e))
+access_is (Ok (MovaFromTile q)) o e = absurd (none_some e)
+access_is (Ok (Ld1 q)) o e = inr (ap (λ (a : SliceAccess). Ok (Ld1 a)) (some-injective q o e))
+access_is (Err BadLevel) o e = absurd (none_some e)
+access_is (Err Undecodable) o e = absurd (none_some e)
 
-is_access : (d : Decoded) (o : SliceAccess) → AccessIn d o → access_of d ≡ some o
+is_access : (d : Result Operation DecodeRefusal) (o : SliceAccess) → AccessIn d o → access_of d ≡ some o
 is_access d o (inl e) = ap access_of e
 is_access d o (inr e) = ap access_of e
 

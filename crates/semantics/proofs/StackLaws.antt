@@ -1,6 +1,6 @@
 -- What the switch of the stack check changes (specs/Claims.antt, `StackCheckSwitched`).
 -- Assumes nothing.
-use Rattle.std.specs.Prelude.{Result, ⊤, Err}
+use Rattle.std.specs.Prelude.{Result, ⊤, Err, Ok}
 use Prim.Native.Nat.{ℕ}
 use mathlib.Core.Path.{◌≡◌, refl}
 use mathlib.Core.Bool.{Bool, true, false, ◌&&◌, not}
@@ -15,14 +15,14 @@ use Rattle.encoding.specs.Codec.{decode_of}
 use Rattle.encoding.specs.declared.operation.SliceAccess.{SliceAccess}
 use Rattle.encoding.specs.declared.operation.Operation.{Operation}
 use Rattle.encoding.specs.declared.operation.Operation.TheVariants.{MovaToTile, MovazFromTile, MovaFromArray, MovazFromArray, St1, MovaFromTile, Ld1}
-use Rattle.encoding.specs.declared.operation.Decoded.{Decoded}
-use Rattle.encoding.specs.declared.operation.Decoded.TheVariants as decoded
 use Rattle.semantics.specs.declared.answer.Refusal.{Refusal}
 use Rattle.semantics.specs.declared.answer.Refusal.TheVariants.{BadSettings, BadLengths, StreamingOff, ZaOff, StackMisaligned}
 use Rattle.semantics.specs.Answer.{executed_number}
 use Rattle.semantics.specs.State.{State}
 use Rattle.semantics.specs.Effect.{writes_of, values_of, effect_of}
 use Rattle.semantics.specs.Execute.{guard, valid_lengths, fault_answer, fault_of, misaligned, access_answer, operation_answer, word_answer, answer_of, word_effect, if_done, execute_of}
+use Rattle.encoding.specs.declared.operation.DecodeRefusal.{DecodeRefusal}
+use Rattle.encoding.specs.declared.operation.DecodeRefusal.TheVariants.{BadLevel, Undecodable}
 
 -- two answers, with the check off and with it on: they are the same; or with it on the answer is 6, and with it off 0 or 7
 pub data Switched (off on : Result ⊤ Refusal) : Type 0 where
@@ -56,8 +56,8 @@ module _ (s : Settings) (w : ℕ) (t : State) where
       let fault = fault_of s t.x t.p (length t.memory) o in
       checked (misaligned s t.x t.p (length t.memory) o) (fault_answer s t.x t.p (length t.memory) o fault) (fault_number o fault)
 
-  word_switched : (d : Decoded) → Switched (word_answer off t.x t.p (length t.memory) d) (word_answer on t.x t.p (length t.memory) d)
-  word_switched (decoded.Done o) = guarded s.streaming StreamingOff _ _ (guarded s.za ZaOff _ _ (go o))
+  word_switched : (d : Result Operation DecodeRefusal) → Switched (word_answer off t.x t.p (length t.memory) d) (word_answer on t.x t.p (length t.memory) d)
+  word_switched (Ok o) = guarded s.streaming StreamingOff _ _ (guarded s.za ZaOff _ _ (go o))
     where
       go : (o : Operation) → Switched (operation_answer off t.x t.p (length t.memory) o) (operation_answer on t.x t.p (length t.memory) o)
       go (MovaToTile q) = alike refl
@@ -67,8 +67,8 @@ module _ (s : Settings) (w : ℕ) (t : State) where
       go (St1 q) = access_switched q
       go (MovaFromTile q) = alike refl
       go (Ld1 q) = access_switched q
-  word_switched decoded.BadLevel = alike refl
-  word_switched decoded.Undecodable = alike refl
+  word_switched (Err BadLevel) = alike refl
+  word_switched (Err Undecodable) = alike refl
 
   pub answer_switched : Switched (execute_of off w t).answer (execute_of on w t).answer
   unfolding execute_of answer_of
@@ -85,10 +85,10 @@ module _ (s : Settings) (w : ℕ) (t : State) where
   effect_same (MovaFromTile q) = refl
   effect_same (Ld1 q) = refl
 
-  word_effect_same : (d : Decoded) → word_effect off d t ≡ word_effect on d t
-  word_effect_same (decoded.Done o) = effect_same o
-  word_effect_same decoded.BadLevel = refl
-  word_effect_same decoded.Undecodable = refl
+  word_effect_same : (d : Result Operation DecodeRefusal) → word_effect off d t ≡ word_effect on d t
+  word_effect_same (Ok o) = effect_same o
+  word_effect_same (Err BadLevel) = refl
+  word_effect_same (Err Undecodable) = refl
 
   pub outcome_same : (execute_of off w t).answer ≡ (execute_of on w t).answer → execute_of off w t ≡ execute_of on w t
   unfolding execute_of

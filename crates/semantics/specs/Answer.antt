@@ -24,6 +24,10 @@ executed_answer (Err r) = refusal_answer r
 abbrev pub carried : Answer → Fault
 carried a = record { address = nth_value a 0; element = nth_value a 1 }
 
+-- what there is where it carries nothing
+abbrev pub no_fault : Fault
+no_fault = record { address = 0; element = 0 }
+
 abbrev pub refusal_number : Refusal → ℕ
 refusal_number r = (refusal_answer r).number
 

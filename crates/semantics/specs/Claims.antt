@@ -7,7 +7,6 @@ use Rattle.settings.specs.Settings.{with_stack_check}
 use Rattle.settings.specs.declared.Settings.{Settings}
 use Rattle.encoding.specs.Codec.{decode_of}
 use Rattle.encoding.specs.declared.operation.Operation.{Operation}
-use Rattle.encoding.specs.declared.operation.Decoded.TheVariants as decoded
 use Rattle.semantics.specs.declared.answer.Refusal.{Refusal}
 use Rattle.semantics.specs.Answer.{executed_answer, executed_number}
 use Rattle.semantics.specs.State.{State, Public, public_of}
@@ -46,7 +45,7 @@ ExecutionKeeps = (s : Settings) (w : ℕ) (t : State) → Keeps t (execute_of s 
 -- a word that is done does what its operation means, in the sentences of document 01; and these leave nothing open: no other state meets them, where X, P and
 -- the lengths stay
 abbrev pub IsDone : Settings → ℕ → State → Operation → Type 0
-IsDone s w t o = (decode_of w s.level ≡ decoded.Done o) × ((execute_of s w t).answer ≡ Ok tt)
+IsDone s w t o = (decode_of w s.level ≡ Ok o) × ((execute_of s w t).answer ≡ Ok tt)
 
 abbrev pub OperationsMean : Type 0
 OperationsMean = (s : Settings) (w : ℕ) (t : State) (o : Operation) → IsDone s w t o → Means s t (execute_of s w t).state o

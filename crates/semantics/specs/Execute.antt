@@ -11,14 +11,13 @@ use Rattle.encoding.specs.Codec.{decode_of}
 use Rattle.encoding.specs.declared.operation.SliceAccess.{SliceAccess}
 use Rattle.encoding.specs.declared.operation.Operation.{Operation}
 use Rattle.encoding.specs.declared.operation.Operation.TheVariants.{MovaToTile, MovazFromTile, MovaFromArray, MovazFromArray, St1, MovaFromTile, Ld1}
-use Rattle.encoding.specs.declared.operation.Decoded.{Decoded}
-use Rattle.encoding.specs.declared.operation.Decoded.TheVariants as decoded
 use Rattle.semantics.specs.declared.answer.Fault.{Fault}
 use Rattle.semantics.specs.declared.answer.Refusal.{Refusal}
 use Rattle.semantics.specs.declared.answer.Refusal.TheVariants.{BadSettings, BadLengths, Undecodable, StreamingOff, ZaOff, StackMisaligned, OutsideMemory}
 use Rattle.semantics.specs.State.{State, Public, public_of}
 use Rattle.semantics.specs.Access.{base_of, address_of, element_of, in_memory}
 use Rattle.semantics.specs.Effect.{active_under, effect_of}
+use Rattle.encoding.specs.declared.operation.DecodeRefusal.{DecodeRefusal}
 
 -- ---- the answer
 
@@ -79,10 +78,9 @@ module _ (s : Settings) (x p : List ℕ) (lm : ℕ) where
   operation_answer (Ld1 o) = access_answer o
 
   -- once settings and lengths are right
-  abbrev pub word_answer : Decoded → Result ⊤ Refusal
-  word_answer (decoded.Done o) = guard s.streaming StreamingOff (guard s.za ZaOff (operation_answer o))
-  word_answer decoded.BadLevel = Err Undecodable
-  word_answer decoded.Undecodable = Err Undecodable
+  abbrev pub word_answer : Result Operation DecodeRefusal → Result ⊤ Refusal
+  word_answer (Ok o) = guard s.streaming StreamingOff (guard s.za ZaOff (operation_answer o))
+  word_answer (Err e) = Err Undecodable
 
 unfoldable pub answer_of : Settings → ℕ → Public → Result ⊤ Refusal
 answer_of s w u =
@@ -92,10 +90,9 @@ answer_of s w u =
 -- ---- the state
 
 -- what a decoded word would do; another does nothing
-abbrev pub word_effect : Settings → Decoded → State → State
-word_effect s (decoded.Done o) t = effect_of s o t
-word_effect s decoded.BadLevel t = t
-word_effect s decoded.Undecodable t = t
+abbrev pub word_effect : Settings → Result Operation DecodeRefusal → State → State
+word_effect s (Ok o) t = effect_of s o t
+word_effect s (Err e) t = t
 
 -- an effect only with done
 abbrev pub if_done : {A : Type 0} → Result ⊤ Refusal → A → A → A

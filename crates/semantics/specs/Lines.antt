@@ -2,7 +2,7 @@
 -- What executing promises is held to this too, so that the order of the checks and their numbers are not believed alone; when a line applies is
 -- what specs/Execute.antt says.
 -- Assumes nothing.
-use Rattle.std.specs.Prelude.{ℕ, Bool, true, false, cond, not, List, [], ◌∷◌, length}
+use Rattle.std.specs.Prelude.{ℕ, Bool, true, false, cond, not, List, [], ◌∷◌, length, Result, Ok, Err}
 use Rattle.std.proofs.Math.Option.{Option, none, some}
 use Rattle.general.specs.Least.{is_some}
 use Rattle.settings.specs.Answer.{Answer, answer_with, done, bad_settings, bad_lengths, undecodable, streaming_off, za_off, stack_misaligned, outside_memory}
@@ -11,11 +11,11 @@ use Rattle.settings.specs.declared.Settings.{Settings}
 use Rattle.encoding.specs.Codec.{decode_of}
 use Rattle.encoding.specs.declared.operation.SliceAccess.{SliceAccess}
 use Rattle.encoding.specs.declared.operation.Operation.TheVariants.{MovaToTile, MovazFromTile, MovaFromArray, MovazFromArray, St1, MovaFromTile, Ld1}
-use Rattle.encoding.specs.declared.operation.Decoded.{Decoded}
-use Rattle.encoding.specs.declared.operation.Decoded.TheVariants.{Done, BadLevel, Undecodable}
 use Rattle.semantics.specs.State.{Public}
 use Rattle.semantics.specs.Access.{address_of, element_of}
 use Rattle.semantics.specs.Execute.{valid_lengths, fault_of, stack_bad}
+use Rattle.encoding.specs.declared.operation.DecodeRefusal.{DecodeRefusal}
+use Rattle.encoding.specs.declared.operation.Operation.{Operation}
 
 -- a line of the table: whether it applies, and its answer
 pub record AnswerLine : Type 0 where
@@ -30,22 +30,20 @@ abbrev pub first_line : List AnswerLine → Answer
 first_line [] = answer_with done []
 first_line (l ∷ ls) = cond l.applies l.answer (first_line ls)
 
-abbrev pub is_operation : Decoded → Bool
-is_operation (Done o) = true
-is_operation BadLevel = false
-is_operation Undecodable = false
+abbrev pub is_operation : Result Operation DecodeRefusal → Bool
+is_operation (Ok o) = true
+is_operation (Err e) = false
 
 -- the load or store that a word is, if it is one
-abbrev pub access_of : Decoded → Option SliceAccess
-access_of (Done (MovaToTile o)) = none
-access_of (Done (MovazFromTile o)) = none
-access_of (Done (MovaFromArray o)) = none
-access_of (Done (MovazFromArray o)) = none
-access_of (Done (St1 o)) = some o
-access_of (Done (MovaFromTile o)) = none
-access_of (Done (Ld1 o)) = some o
-access_of BadLevel = none
-access_of Undecodable = none
+abbrev pub access_of : Result Operation DecodeRefusal → Option SliceAccess
+access_of (Ok (MovaToTile o)) = none
+access_of (Ok (MovazFromTile o)) = none
+access_of (Ok (MovaFromArray o)) = none
+access_of (Ok (MovazFromArray o)) = none
+access_of (Ok (St1 o)) = some o
+access_of (Ok (MovaFromTile o)) = none
+access_of (Ok (Ld1 o)) = some o
+access_of (Err e) = none
 
 module _ (s : Settings) (u : Public) where
   abbrev pub stack_is_bad : Option SliceAccess → Bool
@@ -67,10 +65,10 @@ module _ (s : Settings) (u : Public) where
   access_lines a = line_with (stack_is_bad a) stack_misaligned [] ∷ line_with (is_some (fault_in a)) outside_memory (fault_values a (fault_in a)) ∷ []
 
   -- those that look at the word
-  abbrev pub word_lines : Decoded → List AnswerLine
+  abbrev pub word_lines : Result Operation DecodeRefusal → List AnswerLine
   word_lines d = line_with (not (is_operation d)) undecodable [] ∷ line_with (not s.streaming) streaming_off [] ∷ line_with (not s.za) za_off [] ∷ access_lines (access_of d)
 
-  abbrev pub lines_of : Decoded → List AnswerLine
+  abbrev pub lines_of : Result Operation DecodeRefusal → List AnswerLine
   lines_of d =
       line_with (not (valid_settings s)) bad_settings [] ∷
       line_with (not (valid_lengths s (length u.x) u.z_length (length u.p) u.za_length u.memory_length)) bad_lengths [] ∷ word_lines d

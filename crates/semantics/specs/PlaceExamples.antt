@@ -1,14 +1,14 @@
 -- Which bytes some words write, whatever they hold: a place that is written with the value that it has is a place too. In the manner of 01 §7.
 -- To believe: the places. B 16, W12 = 35, so row 3 of the byte tile; W8 = 4, X1 = X2 = 0; predicate 0 has every second bit set.
 -- Assumes nothing.
-use Rattle.std.specs.Prelude.{ℕ, zero, suc, ◌+◌, ◌≡◌, cond, List, [], ◌∷◌, ◌++◌, set}
+use Rattle.std.specs.Prelude.{ℕ, zero, suc, ◌+◌, ◌≡◌, cond, List, [], ◌∷◌, ◌++◌, set, Result, Ok, Err}
 use Rattle.general.specs.Places.{Places}
 use Rattle.encoding.specs.Codec.{decode_of}
-use Rattle.encoding.specs.declared.operation.Decoded.{Decoded}
-use Rattle.encoding.specs.declared.operation.Decoded.TheVariants.{Done, BadLevel, Undecodable}
 use Rattle.semantics.specs.State.{public_of}
 use Rattle.semantics.specs.Effect.{writes_of}
 use Rattle.semantics.specs.ExampleBuffers.{settings_at, state_at, x_with, predicate0}
+use Rattle.encoding.specs.declared.operation.DecodeRefusal.{DecodeRefusal}
+use Rattle.encoding.specs.declared.operation.Operation.{Operation}
 
 -- the places that are written, of the first n
 abbrev listed : Places → ℕ → List ℕ
@@ -16,12 +16,11 @@ listed q zero = []
 listed q (suc n) = listed q n ++ cond (q.on n) (q.at n ∷ []) []
 
 -- those of Z, of ZA and of memory
-abbrev places_of : Decoded → List (List ℕ)
-places_of (Done o) =
+abbrev places_of : Result Operation DecodeRefusal → List (List ℕ)
+places_of (Ok o) =
     let w = writes_of (settings_at 16 0) (public_of (state_at 16 16 (set (set (set (x_with 12 35) 8 4) 1 0) 2 0) (predicate0 16 (0x55 ∷ 0x55 ∷ [])))) o in
     listed w.z w.z.count ∷ listed w.za w.za.count ∷ listed w.memory w.memory.count ∷ []
-places_of BadLevel = []
-places_of Undecodable = []
+places_of (Err e) = []
 
 abbrev writes : ℕ → List (List ℕ)
 writes w = places_of (decode_of w 3)

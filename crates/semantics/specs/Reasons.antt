@@ -3,7 +3,7 @@
 -- To believe: that these are the table's rows. Of the definitions of execution it uses `execute_of`, its number, address and element, and, for a word that decodes, `decode_of`; what an
 -- active element and an address are is said in specs/Operations.antt.
 -- Assumes nothing.
-use Rattle.std.specs.Prelude.{ℕ, zero, suc, ◌+◌, ◌*◌, ◌/◌, ◌%◌, ◌^◌, ◌<◌, ◌≤◌, ◌≡◌, true, false, List, [], ◌∷◌, ◌⊎◌, length, get_or}
+use Rattle.std.specs.Prelude.{ℕ, zero, suc, ◌+◌, ◌*◌, ◌/◌, ◌%◌, ◌^◌, ◌<◌, ◌≤◌, ◌≡◌, true, false, List, [], ◌∷◌, ◌⊎◌, length, get_or, Ok}
 use Rattle.general.specs.Determined.{IsOneOf}
 use Rattle.settings.specs.declared.Settings.{Settings}
 use Rattle.tiles.specs.Element.{bytes_of}
@@ -11,7 +11,6 @@ use Rattle.encoding.specs.Codec.{decode_of}
 use Rattle.encoding.specs.declared.operation.SliceAccess.{SliceAccess}
 use Rattle.encoding.specs.declared.operation.Operation.{Operation}
 use Rattle.encoding.specs.declared.operation.Operation.TheVariants.{St1, Ld1}
-use Rattle.encoding.specs.declared.operation.Decoded.TheVariants.{Done}
 use Rattle.semantics.specs.Answer.{executed_number, executed_fault}
 use Rattle.semantics.specs.State.{State}
 use Rattle.semantics.specs.Execute.{execute_of}
@@ -30,7 +29,7 @@ NotLength n = IsOneOf (16 ∷ 32 ∷ 64 ∷ 128 ∷ 256 ∷ []) n → ⊥
 module _ (s : Settings) (w : ℕ) (t : State) where
   -- the word is a load or store
   abbrev pub IsAccess : SliceAccess → Type 0
-  IsAccess o = (decode_of w s.level ≡ Done (St1 o)) ⊎ (decode_of w s.level ≡ Done (Ld1 o))
+  IsAccess o = (decode_of w s.level ≡ Ok (St1 o)) ⊎ (decode_of w s.level ≡ Ok (Ld1 o))
 
   -- an address is not in memory: it is before memory's first byte or after its last
   abbrev pub NotInMemory : ℕ → Type 0
@@ -48,7 +47,7 @@ module _ (s : Settings) (w : ℕ) (t : State) where
 
   -- 3: the word does not decode at this level
   abbrev pub DoesNotDecode : Type 0
-  DoesNotDecode = (o : Operation) → decode_of w s.level ≡ Done o → ⊥
+  DoesNotDecode = (o : Operation) → decode_of w s.level ≡ Ok o → ⊥
 
   -- 6: the stack check on (request 4), a load or store with Rn = 31, at least one active element, stack pointer not a multiple of 16
   pub record StackBad : Type 0 where

@@ -1,6 +1,9 @@
 // The answer of one execution (document 01 §6): done, or why nothing was.
-ghost use Rattle.std.specs.Prelude.{◌≡◌};
-ghost use Rattle.semantics.specs.Answer.{refusal_number, refusal_fault, executed_number, executed_fault};
+ghost use Rattle.std.specs.Prelude.{◌≡◌, MatchResult};
+ghost use Rattle.semantics.specs.declared.answer.Refusal.TheVariants as variants;
+ghost use Rattle.semantics.specs.Answer.{refusal_number, refusal_fault, no_fault};
+
+use settings::BadSettings;
 
 // Where a load or store leaves memory: the address of the first byte that is not in memory, of the lowest-numbered active
 // element that has one, and the number of that element (request 6).
@@ -8,6 +11,14 @@ ghost use Rattle.semantics.specs.Answer.{refusal_number, refusal_fault, executed
 pub struct Fault {
     pub address: u64,
     pub element: u64,
+}
+
+impl Fault {
+    // What an answer carries that carries nothing.
+    pub const NONE: Fault = Fault {
+        address: 0,
+        element: 0,
+    };
 }
 
 // Why nothing was done.
@@ -39,40 +50,32 @@ impl From<Refusal> for u32 {
     }
 }
 
-impl Refusal {
-    // What answer 7 carries, zeros with every other (request 6).
-    pub fn fault(self) -> Fault
-        ensures { result ≡ refusal_fault self }
-    {
-        match self {
+impl From<BadSettings> for Refusal {
+    ghost from_gives = { λ _ refusal. refusal ≡ variants.BadSettings };
+
+    fn from(_refusal: BadSettings) -> Refusal {
+        Self::BadSettings
+    }
+}
+
+// What an answer carries: that of answer 7, zeros with every other (request 6).
+impl From<Refusal> for Fault {
+    ghost from_gives = { λ refusal fault. fault ≡ refusal_fault refusal };
+
+    fn from(refusal: Refusal) -> Fault {
+        match refusal {
             Refusal::OutsideMemory(fault) => fault,
-            _ => Fault {
-                address: 0,
-                element: 0,
-            },
+            _ => Fault::NONE,
         }
     }
 }
 
-// The number of an answer, 0 with done (document 01 §6).
-pub fn answer_number(answer: Result<(), Refusal>) -> u32
-    ensures { result ≡ executed_number answer }
+// The same of any answer, zeros where it is done: the results that a host gets.
+pub fn answer_fault<T: Copy, E: Into<Fault> + Copy>(answer: Result<T, E>) -> Fault
+    ensures { MatchResult answer (λ _. result ≡ no_fault) (λ refusal. E.converts refusal result) }
 {
     match answer {
-        Ok(()) => 0,
-        Err(refusal) => u32::from(refusal),
-    }
-}
-
-// What answer 7 carries, zeros with every other (request 6): the results that a host gets.
-pub fn fault_of(answer: Result<(), Refusal>) -> Fault
-    ensures { result ≡ executed_fault answer }
-{
-    match answer {
-        Ok(()) => Fault {
-            address: 0,
-            element: 0,
-        },
-        Err(refusal) => refusal.fault(),
+        Ok(_) => Fault::NONE,
+        Err(refusal) => refusal.into(),
     }
 }

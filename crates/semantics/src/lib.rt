@@ -4,4 +4,4 @@
 
 mod answer;
 
-pub use answer::{Fault, Refusal, answer_number, fault_of};
+pub use answer::{Fault, Refusal, answer_fault};

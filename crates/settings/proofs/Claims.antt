@@ -8,17 +8,17 @@ use mathlib.Core.Logic.{◌⊎◌, inl, inr}
 use native.Mathlib.Omega.{arith}
 use lib.Dec.{leb}
 use borrow.Author.Tests.{leb-true, le-leb, eqb-true, not-false}
+use Rattle.std.specs.Prelude.{Result, Ok, Err, ⊤}
 use Rattle.general.specs.Determined.{IsOneOf}
 use Rattle.general.proofs.BoolLaws.{and_parts, by_test}
 use Rattle.general.proofs.DeterminedLaws.{equal_determines, one_of_test, other_number}
 use Rattle.settings.specs.Answer.{done, bad_settings, checked_number}
-use Rattle.settings.specs.Settings.{is_vector_length, valid_vectors, valid_settings, check_of, check_number, Checks, settings_of, make_of, Makes, lengths_of, length_numbers, Measures}
+use Rattle.settings.specs.Settings.{is_vector_length, valid_vectors, valid_settings, check_of, check_number, Checks, settings_of, make_of, settings_made, Makes, lengths_of, length_numbers, Measures}
 use Rattle.settings.specs.Lent.{is_off, is_on, no_settings, settings_in}
 use Rattle.settings.specs.Claims.{five, FiveLengths, VectorsFit, LengthsGoByLargest, Items, Plain, ItemsChange, NoMachine, LentSettings, ChecksDetermine, MakesDetermine, MeasuresDetermine, SettingsDetermine}
 use Rattle.settings.specs.declared.Settings.{Settings}
-use Rattle.settings.specs.declared.Checked.{Checked}
-use Rattle.settings.specs.declared.Checked.TheVariants.{Valid, BadSettings}
-use Rattle.settings.specs.declared.Made.{Made}
+use Rattle.settings.specs.declared.answer.BadSettings.{BadSettings}
+use Rattle.settings.specs.declared.answer.RefusedSettings.{RefusedSettings}
 use Rattle.settings.proofs.SettingsLaws.{five_lengths, Vectors, vectors_parts, vectors_true, vectors_false, vector_length_long, checks_valid, checks_bad}
 use Rattle.settings.proofs.LentLaws.{settings_few, settings_many}
 
@@ -61,9 +61,9 @@ checks_determine s = record {
   valid = λ r p f l. p.number ∙ rw ((vectors_fit s).1 f, le-leb s.level 3 l);
 }
   where
-    met : (valid_settings s ≡ true) ⊎ (valid_settings s ≡ false) → (r : Checked) × Checks s r
-    met (inl e) = (Valid, checks_valid s e)
-    met (inr e) = (BadSettings, checks_bad s e)
+    met : (valid_settings s ≡ true) ⊎ (valid_settings s ≡ false) → (r : Result ⊤ BadSettings) × Checks s r
+    met (inl e) = (Ok tt, checks_valid s e)
+    met (inr e) = (Err (record {}), checks_bad s e)
 
 pub lengths_go_by_largest : LengthsGoByLargest
 lengths_go_by_largest s = record { stride = refl; lengths = refl }
@@ -143,22 +143,22 @@ makes_determine B S level = record {
       ((vectors_fit (settings_of B S level)).0 v.0, leb-true level 3 v.1);
   valid = λ r p f l. p.number ∙ rw ((vectors_fit (settings_of B S level)).1 f, le-leb level 3 l);
   made = λ r p e.
-      plain r.settings B S level (ap (λ (m : Made). m.settings) p.equal ∙ ap (λ (b : Bool). (made b).settings) (passed (valid_settings (settings_of B S level)) (sym p.number ∙ e)));
+      plain (settings_made r) B S level (ap settings_made p.equal ∙ ap (λ (b : Bool). settings_made (made b)) (passed (valid_settings (settings_of B S level)) (sym p.number ∙ e)));
   refused = λ r p n.
-      plain r.settings 16 16 0 (ap (λ (m : Made). m.settings) (p.equal ∙ other_number (valid_settings (settings_of B S level)) _ _ _ _ _ _ p.number refl n));
+      plain (settings_made r) 16 16 0 (ap settings_made (p.equal ∙ other_number (valid_settings (settings_of B S level)) _ _ _ _ _ _ p.number refl n));
 }
   where
-    made : Bool → Made
-    made b = cond b (record { answer = Valid; settings = settings_of B S level }) (record { answer = BadSettings; settings = settings_of 16 16 0 })
+    made : Bool → Result Settings RefusedSettings
+    made b = cond b (Ok (settings_of B S level)) (Err (record { settings = settings_of 16 16 0 }))
 
-    number : (b : Bool) → checked_number (made b).answer ≡ cond b done bad_settings
+    number : (b : Bool) → checked_number (made b) ≡ cond b done bad_settings
     number true = refl
     number false = refl
 
 measures_determine : (s : Settings) (ls : List ℕ) → MeasuresDetermine s ls
 measures_determine s ls = record {
   met = ((answer (valid_vectors s), lengths (valid_vectors s)), record { answer = refl; number = number (valid_vectors s); lengths = refl });
-  determined = equal_determines (λ (o : Checked × List ℕ). Measures s ls o.0 o.1) (answer (valid_vectors s), lengths (valid_vectors s)) (λ o p i. (p.answer i, p.lengths i));
+  determined = equal_determines (λ (o : Result ⊤ BadSettings × List ℕ). Measures s ls o.0 o.1) (answer (valid_vectors s), lengths (valid_vectors s)) (λ o p i. (p.answer i, p.lengths i));
   numbers = λ r ls' p. one_of_test (valid_vectors s) (0 ∷ 1 ∷ []) _ _ _ (inl refl) (inr (inl refl)) p.number;
   fitting = λ r ls' p e. (vectors_fit s).0 (passed (valid_vectors s) (sym p.number ∙ e));
   valid = λ r ls' p f. p.number ∙ rw ((vectors_fit s).1 f);
@@ -166,8 +166,8 @@ measures_determine s ls = record {
   refused = λ r ls' p. other_number (valid_vectors s) _ _ _ _ _ _ p.number p.lengths;
 }
   where
-    answer : Bool → Checked
-    answer b = cond b Valid BadSettings
+    answer : Bool → Result ⊤ BadSettings
+    answer b = cond b (Ok tt) (Err (record {}))
 
     lengths : Bool → List ℕ
     lengths b = cond b (length_numbers (lengths_of s)) ls

@@ -8,12 +8,6 @@ use lib.ListN.{length, get_or, set}
 use Rattle.settings.specs.Results.{filled}
 use Rattle.settings.specs.Claims.{ResultsFill}
 
--- a place that an array does not have
-pub set_beyond : (old : List ℕ) (place n : ℕ) → length old ≤ place → old ≡ set old place n
-set_beyond [] place n h = refl
-set_beyond (o ∷ old) zero n h = absurd (not-suc-le-zero h)
-set_beyond (o ∷ old) (suc place) n h = ap (λ (l : List ℕ). o ∷ l) (set_beyond old place n (le_of_suc-le-suc h))
-
 -- one number more, put behind those that were
 pub filled_more : (ns old : List ℕ) (n : ℕ) → set (filled ns old) (length ns) n ≡ filled (ns ++ n ∷ []) old
 filled_more [] [] n = refl

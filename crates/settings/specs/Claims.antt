@@ -1,15 +1,15 @@
 -- What the promises of specs/Settings.antt, Lent.antt and Results.antt leave open: nothing. Each statement is from the promise alone, whichever function meets it;
 -- proofs/Claims.antt proves each. Renders 01 §2, §6 and §9.
 -- Assumes nothing.
-use Rattle.std.specs.Prelude.{ℕ, ◌*◌, ◌/◌, ◌<◌, ◌≤◌, ◌≡◌, Bool, true, false, cond, List, [], ◌∷◌, length, get_or}
+use Rattle.std.specs.Prelude.{ℕ, ◌*◌, ◌/◌, ◌<◌, ◌≤◌, ◌≡◌, Bool, true, false, cond, List, [], ◌∷◌, length, get_or, Result, ⊤}
 use Rattle.general.specs.Determined.{Determined, Met, IsOneOf}
 use Rattle.settings.specs.Answer.{checked_number}
-use Rattle.settings.specs.Settings.{is_vector_length, valid_vectors, check_number, Checks, Makes, with_streaming, with_za, with_memory_address, with_stack_check, stride_of, lengths_of, length_numbers, Measures}
+use Rattle.settings.specs.Settings.{is_vector_length, valid_vectors, check_number, Checks, settings_made, Makes, with_streaming, with_za, with_memory_address, with_stack_check, stride_of, lengths_of, length_numbers, Measures}
 use Rattle.settings.specs.Lent.{is_off, is_on, settings_in}
 use Rattle.settings.specs.Results.{filled}
 use Rattle.settings.specs.declared.Settings.{Settings}
-use Rattle.settings.specs.declared.Checked.{Checked}
-use Rattle.settings.specs.declared.Made.{Made}
+use Rattle.settings.specs.declared.answer.BadSettings.{BadSettings}
+use Rattle.settings.specs.declared.answer.RefusedSettings.{RefusedSettings}
 
 -- the vector lengths of 01
 abbrev pub five : List ℕ
@@ -107,31 +107,31 @@ ResultsFill = (ns old : List ℕ) → FilledIs ns old
 pub record ChecksDetermine (s : Settings) : Type 0 where
   pub met : Met (Checks s)
   pub determined : Determined (Checks s)
-  pub numbers : (r : Checked) → Checks s r → IsOneOf (0 ∷ 1 ∷ []) (checked_number r)
-  pub done : (r : Checked) → Checks s r → checked_number r ≡ 0 → Fitting s.vector_bytes s.largest_vector_bytes × (s.level ≤ 3)
-  pub valid : (r : Checked) → Checks s r → Fitting s.vector_bytes s.largest_vector_bytes → s.level ≤ 3 → checked_number r ≡ 0
+  pub numbers : (r : Result ⊤ BadSettings) → Checks s r → IsOneOf (0 ∷ 1 ∷ []) (checked_number r)
+  pub done : (r : Result ⊤ BadSettings) → Checks s r → checked_number r ≡ 0 → Fitting s.vector_bytes s.largest_vector_bytes × (s.level ≤ 3)
+  pub valid : (r : Result ⊤ BadSettings) → Checks s r → Fitting s.vector_bytes s.largest_vector_bytes → s.level ≤ 3 → checked_number r ≡ 0
 
 -- making: one record; what was asked for with 0, which is given exactly if the two vector lengths fit and the level is at most 3, and with 1 the refused settings of
 -- 01, item by item
 pub record MakesDetermine (B S level : ℕ) : Type 0 where
   pub met : Met (Makes B S level)
   pub determined : Determined (Makes B S level)
-  pub numbers : (r : Made) → Makes B S level r → IsOneOf (0 ∷ 1 ∷ []) (checked_number r.answer)
-  pub done : (r : Made) → Makes B S level r → checked_number r.answer ≡ 0 → Fitting B S × (level ≤ 3)
-  pub valid : (r : Made) → Makes B S level r → Fitting B S → level ≤ 3 → checked_number r.answer ≡ 0
-  pub made : (r : Made) → Makes B S level r → checked_number r.answer ≡ 0 → Plain r.settings B S level
-  pub refused : (r : Made) → Makes B S level r → (checked_number r.answer ≡ 0 → ⊥) → Plain r.settings 16 16 0
+  pub numbers : (r : Result Settings RefusedSettings) → Makes B S level r → IsOneOf (0 ∷ 1 ∷ []) (checked_number r)
+  pub done : (r : Result Settings RefusedSettings) → Makes B S level r → checked_number r ≡ 0 → Fitting B S × (level ≤ 3)
+  pub valid : (r : Result Settings RefusedSettings) → Makes B S level r → Fitting B S → level ≤ 3 → checked_number r ≡ 0
+  pub made : (r : Result Settings RefusedSettings) → Makes B S level r → checked_number r ≡ 0 → Plain (settings_made r) B S level
+  pub refused : (r : Result Settings RefusedSettings) → Makes B S level r → (checked_number r ≡ 0 → ⊥) → Plain (settings_made r) 16 16 0
 
 -- asking for the lengths: one answer and one list, with 0 what the largest vector length fixes, with 1 the list that was there; 0 exactly if the two lengths fit
 pub record MeasuresDetermine (s : Settings) (ls : List ℕ) : Type 0 where
-  pub met : Met (λ (o : Checked × List ℕ). Measures s ls o.0 o.1)
-  pub determined : Determined (λ (o : Checked × List ℕ). Measures s ls o.0 o.1)
-  pub numbers : (r : Checked) (ls' : List ℕ) → Measures s ls r ls' → IsOneOf (0 ∷ 1 ∷ []) (checked_number r)
-  pub fitting : (r : Checked) (ls' : List ℕ) → Measures s ls r ls' → checked_number r ≡ 0 → Fitting s.vector_bytes s.largest_vector_bytes
-  pub valid : (r : Checked) (ls' : List ℕ) → Measures s ls r ls' → Fitting s.vector_bytes s.largest_vector_bytes → checked_number r ≡ 0
-  pub done : (r : Checked) (ls' : List ℕ) → Measures s ls r ls' → checked_number r ≡ 0 →
+  pub met : Met (λ (o : Result ⊤ BadSettings × List ℕ). Measures s ls o.0 o.1)
+  pub determined : Determined (λ (o : Result ⊤ BadSettings × List ℕ). Measures s ls o.0 o.1)
+  pub numbers : (r : Result ⊤ BadSettings) (ls' : List ℕ) → Measures s ls r ls' → IsOneOf (0 ∷ 1 ∷ []) (checked_number r)
+  pub fitting : (r : Result ⊤ BadSettings) (ls' : List ℕ) → Measures s ls r ls' → checked_number r ≡ 0 → Fitting s.vector_bytes s.largest_vector_bytes
+  pub valid : (r : Result ⊤ BadSettings) (ls' : List ℕ) → Measures s ls r ls' → Fitting s.vector_bytes s.largest_vector_bytes → checked_number r ≡ 0
+  pub done : (r : Result ⊤ BadSettings) (ls' : List ℕ) → Measures s ls r ls' → checked_number r ≡ 0 →
       ls' ≡ 32 ∷ (32 * s.largest_vector_bytes) ∷ (16 * (s.largest_vector_bytes / 8)) ∷ (s.largest_vector_bytes * s.largest_vector_bytes) ∷ []
-  pub refused : (r : Checked) (ls' : List ℕ) → Measures s ls r ls' → (checked_number r ≡ 0 → ⊥) → ls' ≡ ls
+  pub refused : (r : Result ⊤ BadSettings) (ls' : List ℕ) → Measures s ls r ls' → (checked_number r ≡ 0 → ⊥) → ls' ≡ ls
 
 pub record SettingsDetermine : Type 0 where
   pub checks : (s : Settings) → ChecksDetermine s

@@ -1,14 +1,13 @@
 -- Settings, lengths and answers by literal values, computed from the definitions. Worked from 01 §2 and §6. To believe: the literal numbers and records.
 -- Assumes nothing.
-use Rattle.std.specs.Prelude.{ℕ, zero, suc, ◌≡◌, Bool, true, false, cond, List, [], ◌∷◌, ◌++◌, map, replicate}
+use Rattle.std.specs.Prelude.{ℕ, zero, suc, ◌≡◌, Bool, true, false, cond, List, [], ◌∷◌, ◌++◌, map, replicate, Result, Ok, Err, ⊤}
 use Rattle.settings.specs.Answer.{answer_with, nth_value, done, bad_settings, bad_lengths, undecodable, streaming_off, za_off, stack_misaligned, outside_memory, out_of_range, bad_listing, no_free_tile, bad_held, checked_number}
 use Rattle.settings.specs.Settings.{min_vector_bytes, max_vector_bytes, max_level, is_vector_length, valid_vectors, valid_settings, check_of, check_number, settings_of, make_of, with_streaming, with_za, with_memory_address, with_stack_check, stride_of, lengths_of, length_numbers, Measures}
 use Rattle.settings.specs.Lent.{settings_in}
 use Rattle.settings.specs.Results.{filled}
 use Rattle.settings.specs.declared.Settings.{Settings}
-use Rattle.settings.specs.declared.Checked.{Checked}
-use Rattle.settings.specs.declared.Checked.TheVariants.{Valid, BadSettings}
-use Rattle.settings.specs.declared.Made.{Made}
+use Rattle.settings.specs.declared.answer.BadSettings.{BadSettings}
+use Rattle.settings.specs.declared.answer.RefusedSettings.{RefusedSettings}
 
 -- vector length, level, streaming, ZA, memory address, stack check, largest vector length
 abbrev pub having : ℕ → ℕ → Bool → Bool → ℕ → Bool → ℕ → Settings
@@ -20,11 +19,18 @@ abbrev pub lengths_below : ℕ → List ℕ
 lengths_below zero = []
 lengths_below (suc n) = lengths_below n ++ cond (is_vector_length n) (n ∷ []) []
 
-abbrev pub made : ℕ → ℕ → ℕ → Made
-made B S l = record { answer = Valid; settings = having B l false false 0 true S }
+abbrev pub made : ℕ → ℕ → ℕ → Result Settings RefusedSettings
+made B S l = Ok (having B l false false 0 true S)
 
-abbrev pub not_made : Made
-not_made = record { answer = BadSettings; settings = having 16 0 false false 0 true 16 }
+abbrev pub not_made : Result Settings RefusedSettings
+not_made = Err (record { settings = having 16 0 false false 0 true 16 })
+
+-- the two answers of a check
+abbrev pub allowed : Result ⊤ BadSettings
+allowed = Ok tt
+
+abbrev pub bad : Result ⊤ BadSettings
+bad = Err (record {})
 
 -- the lengths of buffers for vectors of S bytes, whatever the vector length
 abbrev pub lengths_at : ℕ → List ℕ
@@ -32,7 +38,7 @@ lengths_at S = length_numbers (lengths_of (settings_of 16 S 0))
 
 -- asked for the lengths with vectors of B bytes in buffers for S, with this list: the answer's number, the list afterwards
 abbrev pub Measured : ℕ → ℕ → List ℕ → List ℕ → Type 0
-Measured B S ls l = (r : Checked) (ls' : List ℕ) → Measures (settings_of B S 9) ls r ls' → checked_number r ∷ ls' ≡ l
+Measured B S ls l = (r : Result ⊤ BadSettings) (ls' : List ℕ) → Measures (settings_of B S 9) ls r ls' → checked_number r ∷ ls' ≡ l
 
 -- for which of the lengths buffers can be that hold vectors of B bytes
 abbrev pub holding : ℕ → List Bool
@@ -57,7 +63,7 @@ pub record SettingsExamplesHold : Type 0 where
   -- the level alone, the vector length alone, both; switches, the stack check's too, and address do not count
   pub levels : map (λ l. valid_settings (having 32 l true false 9 true 64)) (0 ∷ 1 ∷ 2 ∷ 3 ∷ 4 ∷ 5 ∷ 255 ∷ 256 ∷ 0x1_0000_0003 ∷ 0xFFFF_FFFF_FFFF_FFFF ∷ []) ≡ replicate 4 true ++ replicate 6 false
   pub valid : map valid_settings (having 16 0 false false 0 true 16 ∷ having 16 3 true true 0xFFFF_FFFF_FFFF_FFFF false 256 ∷ having 24 3 true true 0 true 256 ∷ having 24 4 true true 0 false 24 ∷ having 32 3 true true 0 true 16 ∷ having 32 3 true true 0 true 0 ∷ []) ≡ true ∷ true ∷ false ∷ false ∷ false ∷ false ∷ []
-  pub checked : map check_of (having 128 3 false true 5 false 128 ∷ having 128 4 false true 5 true 128 ∷ having 129 3 false true 5 true 256 ∷ having 128 3 false true 5 true 129 ∷ having 128 3 false true 5 true 64 ∷ []) ≡ Valid ∷ BadSettings ∷ BadSettings ∷ BadSettings ∷ BadSettings ∷ []
+  pub checked : map check_of (having 128 3 false true 5 false 128 ∷ having 128 4 false true 5 true 128 ∷ having 129 3 false true 5 true 256 ∷ having 128 3 false true 5 true 129 ∷ having 128 3 false true 5 true 64 ∷ []) ≡ allowed ∷ bad ∷ bad ∷ bad ∷ bad ∷ []
   pub checked_numbers : map check_number (having 128 3 false true 5 true 256 ∷ having 128 4 false true 5 true 256 ∷ having 129 3 false true 5 true 256 ∷ having 128 3 false true 5 true 0 ∷ []) ≡ 0 ∷ 1 ∷ 1 ∷ 1 ∷ []
   -- made: every vector length, every largest one, every level
   pub lengths_made : map (λ B. make_of B B 2) (16 ∷ 32 ∷ 64 ∷ 128 ∷ 256 ∷ []) ≡ made 16 16 2 ∷ made 32 32 2 ∷ made 64 64 2 ∷ made 128 128 2 ∷ made 256 256 2 ∷ []
@@ -95,7 +101,7 @@ pub record SettingsExamplesHold : Type 0 where
   pub unlaid : Measured 64 32 (9 ∷ 8 ∷ 7 ∷ 6 ∷ []) (1 ∷ 9 ∷ 8 ∷ 7 ∷ 6 ∷ [])
   -- the answers' numbers, and what an answer carries
   pub answers : done ∷ bad_settings ∷ bad_lengths ∷ undecodable ∷ streaming_off ∷ za_off ∷ stack_misaligned ∷ outside_memory ∷ out_of_range ∷ bad_listing ∷ no_free_tile ∷ bad_held ∷ [] ≡ 0 ∷ 1 ∷ 2 ∷ 3 ∷ 4 ∷ 5 ∷ 6 ∷ 7 ∷ 8 ∷ 9 ∷ 13 ∷ 16 ∷ []
-  pub numbers : map checked_number (Valid ∷ BadSettings ∷ []) ≡ 0 ∷ 1 ∷ []
+  pub numbers : map checked_number (allowed ∷ bad ∷ []) ≡ 0 ∷ 1 ∷ []
   pub values : map (nth_value (answer_with 7 (5 ∷ 6 ∷ []))) (0 ∷ 1 ∷ 2 ∷ []) ≡ 5 ∷ 6 ∷ 0 ∷ []
   pub none : nth_value (answer_with 0 []) 0 ≡ 0
   -- two results in an array without a place, with one, with two, with more

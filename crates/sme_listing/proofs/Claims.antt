@@ -1,5 +1,6 @@
 -- Each theorem of specs/Claims.antt.
 -- Assumes nothing.
+use Rattle.std.specs.Prelude.{Result, ⊤, Err, Ok}
 use Prim.Native.Nat.{ℕ}
 use mathlib.Core.Path.{◌≡◌, refl, sym, ap, ◌∙◌, subst}
 use mathlib.Core.Bool.{false}
@@ -19,8 +20,8 @@ use Rattle.semantics.proofs.AnswerLaws.{executed_zeros}
 use Rattle.listing.specs.Answer.{listed_number, listed_fault, listing_numbers}
 use Rattle.listing.specs.Listing.{ListingOutcome, not_run, allowed_in, listing_of}
 use Rattle.listing.specs.Claims.{Stops}
-use Rattle.listing.specs.declared.answer.Listed.{Listed}
-use Rattle.listing.specs.declared.answer.Listed.TheVariants.{BadListing, Ended}
+use Rattle.listing.specs.declared.answer.ListingRefusal.{ListingRefusal}
+use Rattle.listing.specs.declared.answer.ListingRefusal.TheVariants.{BadListing, Refused}
 use Rattle.listing.specs.declared.answer.ListingRun.{ListingRun}
 use Rattle.listing.proofs.ListingLaws.{definition_runs}
 use Rattle.listing.proofs.Claims.{listings_do, early_answers_exactly, listings_determine}
@@ -28,9 +29,10 @@ use Rattle.sme_listing.specs.Export.{ListingExports}
 use Rattle.sme_listing.specs.Claims.{ListingExportsDetermine, RefusesAll, ListingExportsAllDetermine}
 
 -- another answer than 7 carries nothing
-listed_zeros : (a : Listed) (n : ℕ) → (listed_number a ≡ 7 → ⊥) → (listed_fault a).address ∷ (listed_fault a).element ∷ n ∷ [] ≡ 0 ∷ 0 ∷ n ∷ []
-listed_zeros BadListing n h = refl
-listed_zeros (Ended e) n h = ap (λ (ns : List ℕ). first ns ∷ second ns ∷ n ∷ []) (executed_zeros e h)
+listed_zeros : (a : Result ⊤ ListingRefusal) (n : ℕ) → (listed_number a ≡ 7 → ⊥) → (listed_fault a).address ∷ (listed_fault a).element ∷ n ∷ [] ≡ 0 ∷ 0 ∷ n ∷ []
+listed_zeros (Err BadListing) n h = refl
+listed_zeros (Ok _) n h = refl
+listed_zeros (Err (Refused r)) n h = ap (λ (ns : List ℕ). first ns ∷ second ns ∷ n ∷ []) (executed_zeros (Err r) h)
   where
     first : List ℕ → ℕ
     first [] = 0
@@ -57,7 +59,7 @@ module _ (s : Settings) (l : List ℕ) (n : ℕ) (t : State) (rs : List ℕ) whe
   results p = p.results ∙ ap (λ (q : ListingRun). filled (listing_numbers q) rs) p.runs.run
 
   -- where no word ran
-  not_run_lem : (a : Listed) → listing_of s l n t ≡ not_run a t → (listed_number a ≡ 7 → ⊥) → {r : ℕ} {rs' : List ℕ} {t' : State} → Exported r rs' t' → (rs' ≡ filled (0 ∷ 0 ∷ 0 ∷ []) rs) × (t' ≡ t)
+  not_run_lem : (a : Result ⊤ ListingRefusal) → listing_of s l n t ≡ not_run a t → (listed_number a ≡ 7 → ⊥) → {r : ℕ} {rs' : List ℕ} {t' : State} → Exported r rs' t' → (rs' ≡ filled (0 ∷ 0 ∷ 0 ∷ []) rs) × (t' ≡ t)
   unfolding run
   not_run_lem a e h p = (
     results p ∙ ap (λ (o : ListingOutcome). filled (listing_numbers o.run) rs) e ∙ ap (λ (ns : List ℕ). filled ns rs) (listed_zeros a 0 h),

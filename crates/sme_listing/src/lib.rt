@@ -6,6 +6,8 @@ ghost use Rattle.settings.specs.Lent.{settings_in};
 ghost use Rattle.semantics.specs.State.{state_of};
 ghost use Rattle.sme_listing.specs.Export.{ListingExports};
 
+use settings::{Settings, answer_number, put_result};
+
 // Runs a listing on the buffers that are lent, and returns the number of the answer that stopped it (document 01 §6, and 9), 0 at its end or at the allowance. The
 // results are the address and the element that answer 7 carries, zeros with every other, and how many words were done (request 5); each is written where
 // `results` has a place for it. A refused word changes no buffer, and neither does a call that is refused before any word ran.
@@ -23,13 +25,21 @@ pub extern "C" fn sme_run_listing(
 ) -> u32
     ensures { ListingExports (settings_in given.now) listing.now allowance (state_of x.now z.old p.now za.old memory.old) results.old result results.new (state_of x.now z.new p.now za.new memory.new) }
 {
-    let settings = settings::settings_in(given);
-    let run = listing::run(settings, listing, allowance, x, z, p, za, memory);
+    let run = listing::run(
+        Settings::from(given),
+        listing,
+        allowance,
+        x,
+        z,
+        p,
+        za,
+        memory,
+    );
     let answer = run.answer;
-    let number = answer.number();
-    let fault = answer.fault();
-    settings::put_result(results, 0, fault.address);
-    settings::put_result(results, 1, fault.element);
-    settings::put_result(results, 2, run.words);
+    let number = answer_number(answer);
+    let fault = semantics::answer_fault(answer);
+    put_result(results, 0, fault.address);
+    put_result(results, 1, fault.element);
+    put_result(results, 2, run.words);
     number
 }

@@ -1,8 +1,8 @@
-// What hosts link, but for listings, which are in sme_listing: functions over numbers and slices, which only call the crates below. Settings
-// and results are arrays with a count, so that a later one changes no function here (docs/DECISIONS.md).
+// What hosts link, but for listings, which are in sme_listing: functions over numbers and slices, which only call the crates below. Answers are
+// numbers, settings and results arrays with a count, since C gets and gives them so, and a later one changes no function here (docs/DECISIONS.md).
 #![tactic(auto)]
 
-ghost use Rattle.std.specs.Prelude.{◌≡◌, set};
+ghost use Rattle.std.specs.Prelude.{◌≡◌};
 ghost use Rattle.settings.specs.Settings.{check_number};
 ghost use Rattle.settings.specs.Lent.{settings_in};
 ghost use Rattle.semantics.specs.State.{state_of};
@@ -10,10 +10,10 @@ ghost use Rattle.planner.specs.Tile.{tile_of};
 ghost use Rattle.lent_tiles.specs.Lent.{TakesTile, GivesUpTile};
 ghost use Rattle.sme_move.specs.Export.{version, listing_version, Exports, DecodeExports, EncodeExports, LengthExports};
 
-use encoding::Decoded;
+use settings::{Settings, answer_number, put_result};
 
 // The version of what is exported. An archive has such a function for its own version and for each before it whose hosts it serves, so
-// that a host of a later version does not link with it.
+// that a host of a later version does not link with it. The names are the C interface, so each stands here.
 #[unsafe(no_mangle)]
 pub extern "C" fn sme_version_0_5() -> u32
     ensures { result ≡ version }
@@ -50,15 +50,6 @@ pub extern "C" fn sme_version_0_9() -> u32
     9
 }
 
-// Writes a result where a host's array has a place for it.
-fn put_result(results: &mut [u64], place: usize, number: u64)
-    ensures { results.new ≡ set results.old place number }
-{
-    if place < results.len() {
-        results[place] = number;
-    }
-}
-
 // Executes one instruction word on the buffers that are lent, and returns the answer's number
 // (document 01 §6). The results are the address and the element that answer 7 carries, zeros with every other (request 6); each is
 // written where `results` has a place for it. A refusal changes no buffer.
@@ -75,11 +66,10 @@ pub extern "C" fn sme_execute_word(
 ) -> u32
     ensures { Exports (settings_in given.now) word (state_of x.now z.old p.now za.old memory.old) results.old result results.new (state_of x.now z.new p.now za.new memory.new) }
 {
-    let settings = settings::settings_in(given);
-    let answer = execute::execute(settings, word, x, z, p, za, memory);
+    let answer = execute::execute(Settings::from(given), word, x, z, p, za, memory);
     // Both are known before the tests, which then cost a jump each and not one on each way out.
-    let number = semantics::answer_number(answer);
-    let fault = semantics::fault_of(answer);
+    let number = answer_number(answer);
+    let fault = semantics::answer_fault(answer);
     put_result(results, 0, fault.address);
     put_result(results, 1, fault.element);
     number
@@ -92,12 +82,13 @@ pub extern "C" fn sme_execute_word(
 pub extern "C" fn sme_decode(word: u32, level: u64, fields: &mut [u8; 11]) -> u32
     ensures { DecodeExports word level fields.old result fields.new }
 {
-    let decoded = decoder::decode(word, level);
-    let Decoded::Done(operation) = decoded else {
-        return decoded.number();
-    };
-    *fields = flat::flatten(operation);
-    decoded.number()
+    match decoder::decode(word, level) {
+        Ok(operation) => {
+            *fields = flat::flatten(operation);
+            0
+        }
+        Err(refusal) => u32::from(refusal),
+    }
 }
 
 // Encodes the operation that has these eleven numbers, and returns the answer's number: 0 with its word
@@ -107,8 +98,8 @@ pub extern "C" fn sme_encode(fields: &[u8; 11], word: &mut u32) -> u32
     ensures { EncodeExports fields.now result word.new }
 {
     let encoded = flat::encode_flat(fields);
-    *word = encoded.word();
-    encoded.number()
+    *word = encoded.unwrap_or(0);
+    answer_number(encoded)
 }
 
 // 0 where a machine may have these settings, else 1.
@@ -116,8 +107,7 @@ pub extern "C" fn sme_encode(fields: &[u8; 11], word: &mut u32) -> u32
 pub extern "C" fn sme_check(given: &[u64]) -> u32
     ensures { result ≡ check_number (settings_in given.now) }
 {
-    let settings = settings::settings_in(given);
-    settings.check().number()
+    answer_number(Settings::from(given).check())
 }
 
 // The lengths that these settings fix, in the order X (in numbers), Z, P, ZA (in bytes), and 0; or 1 where a vector length is none,
@@ -126,8 +116,7 @@ pub extern "C" fn sme_check(given: &[u64]) -> u32
 pub extern "C" fn sme_measure(given: &[u64], lengths: &mut [u64; 4]) -> u32
     ensures { LengthExports (settings_in given.now) lengths.old result lengths.new }
 {
-    let settings = settings::settings_in(given);
-    settings::measure(settings, lengths).number()
+    answer_number(settings::measure(Settings::from(given), lengths))
 }
 
 // Takes the lowest-numbered free tile with elements of so many bytes, and returns the answer's number: 0, with the
@@ -144,10 +133,7 @@ pub extern "C" fn sme_take_tile(
 {
     let taken = lent_tiles::take_tile(tiles, count, element_bytes);
     *tile = taken.unwrap_or(0);
-    match taken {
-        Ok(_) => 0,
-        Err(refusal) => refusal.into(),
-    }
+    answer_number(taken)
 }
 
 // Gives up a held tile, and returns the answer's number: 0, with that tile no longer among the held ones; or 16
@@ -161,8 +147,5 @@ pub extern "C" fn sme_give_up_tile(
 ) -> u32
     ensures { GivesUpTile tiles.old count.old (tile_of element_bytes tile) result tiles.new count.new }
 {
-    match lent_tiles::give_up_tile(tiles, count, element_bytes, tile) {
-        Ok(()) => 0,
-        Err(refusal) => refusal.into(),
-    }
+    answer_number(lent_tiles::give_up_tile(tiles, count, element_bytes, tile))
 }

@@ -1,48 +1,16 @@
 -- Laws of specs/Digits.antt.
 -- Assumes nothing.
-use mathlib.Core.Path.{◌≡◌, refl, sym, ap, ◌∙◌}
-use mathlib.Core.Bool.{true, false, and-false, and-eq-true_iff}
-use mathlib.Core.List.{List, [], ◌∷◌}
-use Prim.Native.Nat.{ℕ, zero, suc, ◌+◌, ◌*◌, ◌-◌, ◌/◌, ◌^◌, ◌≤◌, ◌<◌}
+use Rattle.std.proofs.Common.{ℕ, zero, suc, ◌+◌, ◌*◌, ◌-◌, ◌/◌, ◌^◌, ◌<◌, ◌≤◌, ◌≡◌, refl, ap, ◌∙◌, List, length, get_or, take, drop, Some, None, arith}
 use native.Mathlib.Nat.{one-le-pow, div-lt_iff_lt-mul, le-div_iff_mul-le, zero-add, suc-add, mod-eq_of_lt, pow-suc, pow-le-pow_right, lt_of_lt_of_le}
 use native.Mathlib.Numerals.{add-one, sub-one}
-use native.Mathlib.Decide.{dec_le, ℕ_discrete as dec_eq}
-use native.Mathlib.Omega.{arith}
-use lib.Dec.{ltb, lit<}
-use lib.ListN.{length, get_or, take, drop}
-use lib.Seq.{take_all}
-use borrow.Author.Tests.{eq-eqb, ne_eqb, lt-ltb, le-ltb, le-leb, lt-leb, ltb-true}
-use Rattle.std.proofs.Common.{Option}
-use Rattle.std.specs.Option.{MatchOption, unwrap_or}
-use Rattle.std.specs.List.{AllWithin, HoldsAt}
-use Rattle.std.proofs.lemmas.Iterator.{index_from_first}
+use native.Mathlib.Decide.{dec_le}
+use lib.Dec.{lit<}
+use Rattle.std.specs.Option.{option_and_then}
+use lib.ListN.{drop_of_length-le}
+use lib.Seq.{drop-cons, take_all}
+use borrow.Author.Tests.{lt-ltb, le-ltb, le-leb, lt-leb}
 use Rattle.io.specs.Digits.{last_digits, IsDigitCount}
-use Rattle.text.specs.Digits.{index_of, hex_digits, decimal_in, decimal_of, value_of, all_digits, number_read, parse_of}
-use Rattle.text.specs.declared.digits.Parsed.TheVariants.{Number, Malformed}
-
--- a search that begins with the first byte finds the index, which is at most the number of bytes
-index_hit : (b x : ℕ) (xs : List ℕ) → x ≡ b → index_of b (x ∷ xs) ≡ 0
-unfolding index_of
-index_hit b x xs h = rw (eq-eqb x b h)
-
-index_miss : (b x : ℕ) (xs : List ℕ) → (x ≡ b → ⊥) → index_of b (x ∷ xs) ≡ index_of b xs + 1
-unfolding index_of
-index_miss b x xs h = rw (ne_eqb x b h) (sym (add-one (index_of b xs)))
-
-index_none : (b : ℕ) → index_of b [] ≡ 0
-unfolding index_of
-index_none b = refl
-
-pub index_of-first : (b : ℕ) (xs : List ℕ) (r : Option ℕ) → MatchOption r (AllWithin (λ x. x ≡ b → ⊥) xs 0 (length xs)) (λ i. (i < length xs) × HoldsAt (λ x. x ≡ b) xs i × AllWithin (λ x. x ≡ b → ⊥) xs 0 i) → index_of b xs ≡ unwrap_or r (length xs)
-index_of-first b xs r h = index_from_first (index_of b) (λ x. x ≡ b) (λ x. x ≡ b → ⊥) (index_none b) (index_hit b) (index_miss b) xs r h
-
-pub index_of-le : (b : ℕ) (xs : List ℕ) → index_of b xs ≤ length xs
-index_of-le b [] = omega (arith, index_none b)
-index_of-le b (x ∷ xs) = by_order (dec_eq x b) (index_of-le b xs)
-  where
-    by_order : Dec (x ≡ b) → index_of b xs ≤ length xs → index_of b (x ∷ xs) ≤ length (x ∷ xs)
-    by_order (yes h) others = omega (arith, index_hit b x xs h)
-    by_order (no h) others = omega (arith, index_miss b x xs h)
+use Rattle.text.specs.Digits.{hex_digits, decimal_in, decimal_of, value_of, number_on, parse_of}
 
 -- k digits are k bytes, and the last k are what dropping the others leaves
 hex_digits-length : (k n : ℕ) → length (hex_digits k n) ≡ k
@@ -91,42 +59,35 @@ pub decimal_of-fewest : (k n : ℕ) → n < 2 ^ 64 → IsDigitCount 10 1 n k →
 unfolding decimal_of
 decimal_of-fewest k n h few = decimal_in-fewest 20 k n (fewest_below k n h few) few
 
--- a byte that is no digit spoils all that follow
-all_digits-fails : (ds : List ℕ) (k n : ℕ) → k < n → 15 < value_of (get_or ds k 0) → all_digits ds n ≡ false
-all_digits-fails ds k zero h bad = absurd (omega arith)
-all_digits-fails ds k (suc n) h bad = by_order (dec_le n k) (λ lt. all_digits-fails ds k n lt bad)
-  where
-    by_order : Dec (n ≤ k) → (k < n → all_digits ds n ≡ false) → all_digits ds (suc n) ≡ false
-    by_order (yes le) before =
-        let same : k ≡ n = omega arith in
-        rw (← same, le-ltb (value_of (get_or ds k 0)) 16 bad, and-false)
-    by_order (no gt) before = rw (before (omega arith))
+-- i digits are a number below 16 to the power i, and one more fits
+pub fits_more : (n i : ℕ) → n < 16 ^ i → i < 8 → n < 16 ^ 7
+fits_more n i w few = let seven : i ≤ 7 = omega arith in lt_of_lt_of_le w (pow-le-pow_right (lit< tt) seven)
 
--- one digit more
-pub all_digits-suc : (ds : List ℕ) (k : ℕ) → all_digits ds k ≡ true → value_of (get_or ds k 0) ≤ 15 → all_digits ds (suc k) ≡ true
-all_digits-suc ds k all h = rw (all, lt-ltb (value_of (get_or ds k 0)) 16 (omega arith))
+pub below_more : (n i d : ℕ) → n < 16 ^ i → d < 16 → n * 16 + d < 16 ^ (i + 1)
+below_more n i d w small = rw (add-one i, pow-suc) (omega arith)
 
--- k digits make a number below 16 ^ k, and below any larger power
-number_of_below : (ds : List ℕ) (k : ℕ) → all_digits ds k ≡ true → number_read ds k < 16 ^ k
-number_of_below ds zero all = omega arith
-number_of_below ds (suc k) all =
-    let parts = (and-eq-true_iff (all_digits ds k) (ltb (value_of (get_or ds k 0)) 16)).0 all in
-    let before : number_read ds k < 16 ^ k = number_of_below ds k parts.0 in
-    let last : value_of (get_or ds k 0) < 16 = ltb-true _ _ parts.1 in
-    rw pow-suc (omega arith)
-
-pub number_read-fits : (ds : List ℕ) (k n : ℕ) → k ≤ n → all_digits ds k ≡ true → number_read ds k < 16 ^ n
-number_read-fits ds k n h all = lt_of_lt_of_le (number_of_below ds k all) (pow-le-pow_right (lit< tt) h)
-
--- what reading gives: for too many bytes, for one that is no digit, and for digits
-pub parse_long : (ds : List ℕ) → 8 < length ds → Malformed ≡ parse_of ds
+-- too many bytes
+pub parse_long : (ds : List ℕ) → 8 < length ds → None ≡ parse_of ds
 unfolding parse_of
 parse_long ds h = rw (lt-leb (length ds) 8 h)
 
-pub parse_bad : (ds : List ℕ) (k : ℕ) → k < length ds → 15 < value_of (get_or ds k 0) → Malformed ≡ parse_of ds
-unfolding parse_of
-parse_bad ds k h bad = rw (all_digits-fails ds k (length ds) h bad, and-false)
+module _ (ds : List ℕ) (few : length ds ≤ 8) (n i : ℕ) where
+  parse_short : parse_of ds ≡ number_on 0 ds
+  unfolding parse_of
+  parse_short = rw (le-leb (length ds) 8 few)
 
-pub parse_good : (ds : List ℕ) → length ds ≤ 8 → all_digits ds (length ds) ≡ true → Number (number_read ds (length ds)) ≡ parse_of ds
-unfolding parse_of
-parse_good ds h all = rw (le-leb (length ds) 8 h, all)
+  -- at a byte
+  step : i < length ds → number_on n (drop i ds) ≡ option_and_then (λ d. number_on (n * 16 + d) (drop (i + 1) ds)) (value_of (get_or ds i 0))
+  step w = ap (number_on n) (drop-cons ds i 0 w) ∙ rw (add-one i)
+
+  -- one that is no digit
+  pub parse_bad : i < length ds → None ≡ value_of (get_or ds i 0) → number_on n (drop i ds) ≡ number_on 0 ds → None ≡ parse_of ds
+  parse_bad w e so = rw (parse_short, ← so, step w, ← e)
+
+  -- a digit
+  pub parse_more : (d : ℕ) → i < length ds → Some d ≡ value_of (get_or ds i 0) → number_on n (drop i ds) ≡ number_on 0 ds → number_on (n * 16 + d) (drop (i + 1) ds) ≡ number_on 0 ds
+  parse_more d w e so = rw (← so, step w, ← e)
+
+  -- the end
+  pub parse_all : length ds ≤ i → number_on n (drop i ds) ≡ number_on 0 ds → Some n ≡ parse_of ds
+  parse_all w so = rw (parse_short, ← so, drop_of_length-le ds {i = i} w)

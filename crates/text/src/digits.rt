@@ -1,28 +1,23 @@
 // Hexadecimal digits in upper case, and the numbers that they are.
-ghost use Rattle.std.specs.Prelude.{◌≡◌, ◌≤◌};
+ghost use Rattle.std.specs.Prelude.{◌≡◌, ◌<◌, ◌^◌, length, IfSome};
 ghost use Rattle.text.specs.Digits.{digit_of, value_of, hex_digits, parse_of};
 
 const DIGITS: [u8; 16] = *b"0123456789ABCDEF";
 
-// What reading digits finds.
-#[derive(Clone, Copy)]
-pub enum Parsed {
-    Number(u32),
-    Malformed,
-}
-
-// The digit of a number's lowest four bits.
+// The digit of a number's lowest four bits. Digits by hand, and no `{:X}`, as line.rt says.
 fn hex_digit(number: u32) -> u8
     ensures { result ≡ digit_of number }
 {
     DIGITS[(number % 16) as usize]
 }
 
-// The value of a digit, 16 for any other byte.
-fn digit_value(byte: u8) -> u32
-    ensures { (result ≡ value_of byte) × (result ≤ 16) }
+// The value of a digit.
+fn digit_value(byte: u8) -> Option<u32>
+    ensures value { result ≡ value_of byte }
+    ensures small { IfSome result (λ n. n < 16) }
 {
-    DIGITS.iter().position(|digit| *digit == byte).unwrap_or(16) as u32
+    let value = DIGITS.iter().position(|digit| *digit == byte)?;
+    Some(value as u32)
 }
 
 // The eight digits of a number, zeros in front.
@@ -41,23 +36,19 @@ pub(crate) fn hex_digits(number: u32) -> [u8; 8]
     ]
 }
 
-// The number that digits are, 0 for none. Malformed where a byte is no digit in upper case, and
-// for more than eight bytes.
-pub fn hex_number(digits: &[u8]) -> Parsed
-    ensures { result ≡ parse_of digits.now }
+// The number that digits are, 0 for none. None where a byte is no digit in upper case, and for more than eight bytes.
+// No u32::from_str_radix: it takes lower case and a sign too, for which a line is refused.
+pub fn hex_number(digits: &[u8]) -> Option<u32>
+    ensures value { result ≡ parse_of digits.now }
+    ensures below { IfSome result (λ n. n < 16 ^ length digits.now) }
 {
     if 8 < digits.len() {
-        return Parsed::Malformed;
+        return None;
     }
-    let mut number: u32 = 0;
-    let mut i = 0;
-    while i < digits.len() {
-        let value = digit_value(digits[i]);
-        if 15 < value {
-            return Parsed::Malformed;
-        }
+    let mut number = 0;
+    for digit in digits {
+        let value = digit_value(*digit)?;
         number = number * 16 + value;
-        i += 1;
     }
-    Parsed::Number(number)
+    Some(number)
 }

@@ -1,5 +1,6 @@
 // A line that is put together in a buffer from its start, with the position of what comes next.
 // What would go past the buffer's end is dropped.
+// No Display: `Puts` says what every call puts, and of a Display the library says so on Ok alone. A line and a position, and no struct: `Puts` is of a buffer of any length.
 ghost use Rattle.std.specs.Prelude.{◌≡◌, [], ◌∷◌, min};
 ghost use Rattle.text.specs.Digits.{hex_digits, decimal_of};
 ghost use Rattle.text.specs.Line.{Puts};
@@ -23,20 +24,11 @@ pub fn put_byte(line: &mut [u8], at: usize, byte: u8) -> usize
 fn put(line: &mut [u8], at: usize, bytes: &[u8]) -> usize
     ensures { Puts line.old at bytes.now line.new result }
 {
-    let mut next = least(at, line.len());
-    let mut i = 0;
-    while i < bytes.len() {
-        next = put_byte(line, next, bytes[i]);
-        i += 1;
+    let mut next = at.min(line.len());
+    for byte in bytes {
+        next = put_byte(line, next, *byte);
     }
     next
-}
-
-// The smaller of two numbers.
-fn least(a: usize, b: usize) -> usize
-    ensures { result ≡ min a b }
-{
-    if a < b { a } else { b }
 }
 
 // Puts the last hexadecimal digits of a number, `count` of them, and eight where count is larger.
@@ -45,7 +37,7 @@ pub fn put_hex(line: &mut [u8], at: usize, number: u32, count: usize) -> usize
     ensures { Puts line.old at (hex_digits (min count 8) number) line.new result }
 {
     let digits = hex_digits(number);
-    let skipped = 8 - least(count, 8);
+    let skipped = 8 - count.min(8);
     put(line, at, &digits[skipped..])
 }
 

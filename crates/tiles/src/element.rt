@@ -2,14 +2,14 @@
 ghost use Rattle.std.specs.Prelude.{◌≡◌, ◌/◌, ◌<◌};
 ghost use Rattle.tiles.specs.Element.{bytes_of, size_of, doublings_of};
 
-// An element's width, named as Arm names its classes of encodings.
-#[derive(Clone, Copy)]
+// An element's width, named as Arm names its classes of encodings, and numbered by how often a byte is doubled.
+#[derive(Clone, Copy, Debug, PartialEq, Eq)]
 pub enum ElementSize {
-    Bits8,
-    Bits16,
-    Bits32,
-    Bits64,
-    Bits128,
+    Bits8 = 0,
+    Bits16 = 1,
+    Bits32 = 2,
+    Bits64 = 3,
+    Bits128 = 4,
 }
 
 impl ElementSize {
@@ -17,13 +17,7 @@ impl ElementSize {
     pub fn doublings(self) -> u32
         ensures { (result ≡ doublings_of self) × (result < 5) }
     {
-        match self {
-            ElementSize::Bits8 => 0,
-            ElementSize::Bits16 => 1,
-            ElementSize::Bits32 => 2,
-            ElementSize::Bits64 => 3,
-            ElementSize::Bits128 => 4,
-        }
+        self as u32
     }
 
     // An element's bytes, which is also how many tiles there are of the size.
@@ -33,7 +27,8 @@ impl ElementSize {
         1u8 << self.doublings()
     }
 
-    // The size with this many bytes; Bits128 where no size has.
+    // The size with this many bytes; Bits128 where no size has. No TryFrom: it cannot fail, as `size_of` of specs/Element.antt cannot,
+    // since `unflatten` and `is_size` of planner tell by the bytes of the size that was read whether it was one.
     pub fn of_bytes(bytes: u8) -> ElementSize
         ensures { result ≡ size_of bytes }
     {

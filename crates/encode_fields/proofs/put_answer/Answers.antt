@@ -9,6 +9,6 @@ use Rattle.encode_fields.proofs.put_answer.Goals as goal
 pub returns : goal.returns
 unfolding line_of
 returns c =
-    let numbers = c.numbers_of-numbers.ensures in
+    let numbers = c.numbers-numbers.ensures in
     let encoded = c.encode_flat.ensures.equal ∙ ap encode_flat_of numbers in
     puts_append c.put_question-next.ensures (puts_cong (ap encoded_text encoded) c.put_encoded.ensures)

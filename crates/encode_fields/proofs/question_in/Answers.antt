@@ -1,28 +1,33 @@
 -- `encode_fields::question_in` meets its contract, test by test.
 -- Assumes nothing.
-use mathlib.Core.Path.{refl, sym, ◌∙◌}
+use Rattle.std.proofs.Common.{refl, sym, ◌∙◌}
 use Rattle.encode_fields.proofs.LineLaws.{question_length, question_newline, question_asked}
+use Rattle.encode_fields.proofs.question_in.Goals.{then-line-ne-LENGTH-via-then-line-ne-LENGTH, then-line-ne-LENGTH-via-else-line-ne-LENGTH+then-line-ne10}
 use Rattle.encode_fields.proofs.question_in.Goals as goal
 
-pub returns-then-line-ne23 : goal.returns-then-line-ne23
-returns-then-line-ne23 c = question_length _ c.if-line-ne23.true
-
-pub returns-then-line-ne10 : goal.returns-then-line-ne10
-returns-then-line-ne10 c = question_newline _ c.if-line-ne10.true
+pub returns-then-line-ne-LENGTH : goal.returns-then-line-ne-LENGTH
+returns-then-line-ne-LENGTH c =
+    elim c.then-line-ne-LENGTH.branch [
+      | then-line-ne-LENGTH-via-then-line-ne-LENGTH w ↦ question_length _ w.if-line-ne-LENGTH.true
+      | then-line-ne-LENGTH-via-else-line-ne-LENGTH+then-line-ne10 w ↦ question_newline _ w.if-line-ne10.true
+    ]
 
 -- past the tests, the digits decide
-pub returns-in_default : goal.returns-in_default
-returns-in_default c =
-    question_asked c.args.line.now _ _ _ c.if-line-ne23.false c.if-line-ne10.false (sym c.in_default.is ∙ c.hex_number.ensures) refl refl
+pub returns-in_err-first : goal.returns-in_err-first
+returns-in_err-first c =
+    c.from_residual.ensures
+    ∙ question_asked c.args.line.now _ _ _ c.if-line-ne-LENGTH.false c.if-line-ne10.false (sym c.in_err-first.was ∙ c.hex_number.ensures.value) refl refl
 
-pub returns-in_default-hex_number : goal.returns-in_default-hex_number
-returns-in_default-hex_number c =
-    question_asked c.args.line.now _ _ _ c.if-line-ne23.false c.if-line-ne10.false (sym c.in-Number.is ∙ c.hex_number.ensures) (sym c.in_default-hex_number.is ∙ c.hex_number-2.ensures) refl
+pub returns-in_err-second : goal.returns-in_err-second
+returns-in_err-second c =
+    c.from_residual-in_err-second.ensures
+    ∙ question_asked c.args.line.now _ _ _ c.if-line-ne-LENGTH.false c.if-line-ne10.false (sym c.in_ok-first.was ∙ c.hex_number.ensures.value) (sym c.in_err-second.was ∙ c.hex_number-2.ensures.value) refl
 
-pub returns-in_default-hex_number-2 : goal.returns-in_default-hex_number-2
-returns-in_default-hex_number-2 c =
-    question_asked c.args.line.now _ _ _ c.if-line-ne23.false c.if-line-ne10.false (sym c.in-Number.is ∙ c.hex_number.ensures) (sym c.in-Number-hex_number.is ∙ c.hex_number-2.ensures) (sym c.in_default-hex_number-2.is ∙ c.hex_number-3.ensures)
+pub returns-in_err-third : goal.returns-in_err-third
+returns-in_err-third c =
+    c.from_residual-in_err-third.ensures
+    ∙ question_asked c.args.line.now _ _ _ c.if-line-ne-LENGTH.false c.if-line-ne10.false (sym c.in_ok-first.was ∙ c.hex_number.ensures.value) (sym c.in_ok-second.was ∙ c.hex_number-2.ensures.value) (sym c.in_err-third.was ∙ c.hex_number-3.ensures.value)
 
 pub returns : goal.returns
 returns c =
-    question_asked c.args.line.now _ _ _ c.if-line-ne23.false c.if-line-ne10.false (sym c.in-Number.is ∙ c.hex_number.ensures) (sym c.in-Number-hex_number.is ∙ c.hex_number-2.ensures) (sym c.in-Number-hex_number-2.is ∙ c.hex_number-3.ensures)
+    question_asked c.args.line.now _ _ _ c.if-line-ne-LENGTH.false c.if-line-ne10.false (sym c.in_ok-first.was ∙ c.hex_number.ensures.value) (sym c.in_ok-second.was ∙ c.hex_number-2.ensures.value) (sym c.in_ok-third.was ∙ c.hex_number-3.ensures.value)

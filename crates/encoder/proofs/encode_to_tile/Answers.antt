@@ -1,17 +1,22 @@
 -- `encoder::encode_to_tile` meets its contract: each refusal is outside the range that the row asks, and past them all the sum is the row's word.
 -- Assumes nothing.
-use mathlib.Core.Path.{sym, ◌∙◌}
+use mathlib.Core.Path.{◌≡◌, sym, ◌∙◌}
+use mathlib.Core.Bool.{true}
 use native.Mathlib.Omega.{arith}
+use Rattle.encoder.specs.Steps.{slice_held}
 use Rattle.encoder.proofs.EncoderLaws.{SliceRange, slice_held_lem, slice_outside, to_tile_encodes, to_tile_refuses}
 use Rattle.encoder.proofs.encode_to_tile.Goals.{Else-not-is_slice_held}
 use Rattle.encoder.proofs.encode_to_tile.Goals as goal
 
 -- the slice is held once its test is passed
-held : (c : Else-not-is_slice_held) → let a = c.args in SliceRange a.size a.index a.tile a.offset
-held c = let a = c.args in slice_held_lem a.size a.index a.tile a.offset (sym c.is_slice_held.ensures ∙ c.if-not-is_slice_held.false)
+passed : (c : Else-not-is_slice_held) → slice_held c.args.o.slice ≡ true
+passed c = sym c.is_slice_held.ensures ∙ c.if-not-is_slice_held.false
+
+held : (c : Else-not-is_slice_held) → SliceRange c.args.o.slice
+held c = slice_held_lem _ (passed c)
 
 pub returns-then-not-is_slice_held : goal.returns-then-not-is_slice_held
-returns-then-not-is_slice_held c = to_tile_refuses _ _ _ _ _ _ _ (λ h. slice_outside c.args.size c.args.index c.args.tile c.args.offset (sym c.is_slice_held.ensures ∙ c.if-not-is_slice_held.true) (h.0, h.1, h.4, h.5))
+returns-then-not-is_slice_held c = to_tile_refuses _ _ _ _ _ _ _ (λ h. slice_outside c.args.o.slice (sym c.is_slice_held.ensures ∙ c.if-not-is_slice_held.true) (record { low = h.0; high = h.1; tile = h.4; offset = h.5 }))
 
 pub returns-then-pg-gt7 : goal.returns-then-pg-gt7
 returns-then-pg-gt7 c = to_tile_refuses _ _ _ _ _ _ _ (λ h. omega arith)
@@ -19,14 +24,8 @@ returns-then-pg-gt7 c = to_tile_refuses _ _ _ _ _ _ _ (λ h. omega arith)
 pub returns-then-zn-gt31 : goal.returns-then-zn-gt31
 returns-then-zn-gt31 c = to_tile_refuses _ _ _ _ _ _ _ (λ h. omega arith)
 
-pub overflow_sub-result : goal.overflow_sub-result
-overflow_sub-result c = omega (arith, held (goal.at.overflow_sub-result c).Else-not-is_slice_held)
-
-pub shared_bits-requires : goal.shared_bits-requires
-shared_bits-requires c = let s = held (goal.at.shared_bits-requires c).Else-not-is_slice_held in (s.2, s.3)
-
 pub returns : goal.returns
 returns c =
-    let a = c.args in
+    let o = c.args.o in
     let s = held (goal.at.returns c).Else-not-is_slice_held in
-    to_tile_encodes a.direction a.index a.pg a.zn a.tile a.offset a.size _ (omega (arith, s)) (omega (arith, s))
+    to_tile_encodes o.slice.direction o.slice.index o.pg o.zn o.slice.tile o.slice.offset o.slice.size _ (omega (arith, s)) (omega (arith, s))

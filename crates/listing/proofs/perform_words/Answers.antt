@@ -7,20 +7,14 @@ use Rattle.listing.proofs.perform_words.Goals as goal
 pub loop-i-init : goal.loop-i-init
 loop-i-init c = (omega arith, onward_begins _ _ _ _)
 
-pub word_at-word-requires : goal.word_at-word-requires
-word_at-word-requires c = omega (arith, c.requires.1)
-
-pub perform-answer-requires : goal.perform-answer-requires
-perform-answer-requires c = onward_sized _ _ _ _ _ _ c.loop-i.invariant.1 c.requires.0
-
-pub returns-in_default : goal.returns-in_default
-returns-in_default c =
-    onward_refused _ _ _ _ _ _ c.loop-i.invariant.1 _ _ _ c.loop-i-test.true c.word_at-word.ensures c.perform-answer.ensures _ c.in_default.is
+pub returns-in-Err : goal.returns-in-Err
+returns-in-Err c =
+    rw c.into.ensures (onward_refused _ _ _ _ _ _ c.loop-i.invariant.1 _ _ _ c.loop-i-test.true c.word_at-word.ensures c.perform.ensures _ c.in-Err.is)
 
 pub loop-i-preserved : goal.loop-i-preserved
 loop-i-preserved c = (
   omega arith,
-  onward_done _ _ _ _ _ _ c.loop-i.invariant.1 _ _ _ c.loop-i-test.true c.word_at-word.ensures c.perform-answer.ensures c.in-Ok.is,
+  onward_done _ _ _ _ _ _ c.loop-i.invariant.1 _ _ _ c.loop-i-test.true c.word_at-word.ensures c.perform.ensures c.in_default.is,
 )
 
 pub returns : goal.returns

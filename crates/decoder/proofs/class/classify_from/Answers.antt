@@ -10,7 +10,7 @@ use Rattle.decoder.proofs.DecoderLaws.{from_tile_classifies, take_classifies}
 use Rattle.decoder.proofs.class.classify_from.Goals as goal
 
 pub returns-then-word-eq0 : goal.returns-then-word-eq0
-returns-then-word-eq0 c = from_tile_classifies c.args.size _ (omega arith) _ c.requires.0 c.requires.1
+returns-then-word-eq0 c = from_tile_classifies c.args.size _ (omega arith) _ c.requires.0 (omega arith)
 
 pub returns-then-level-lt3 : goal.returns-then-level-lt3
 unfolding table

@@ -2,7 +2,7 @@
 -- Assumes nothing.
 use Prim.Native.Nat.{◌≤◌}
 use native.Mathlib.Omega.{arith}
-use Rattle.execute.proofs.MoveLaws.{groups, groups_power, group_list}
+use Rattle.execute.proofs.MoveLaws.{groups, groups_power}
 use Rattle.execute.proofs.array.group_of.Goals.{After-selected-first}
 use Rattle.execute.proofs.array.group_of.Goals as goal
 
@@ -18,14 +18,8 @@ selected-first-requires c =
     let g = groups a.registers a.vector_bytes valid in
     (rw c.group_stride-apart.ensures (groups_power a.registers a.vector_bytes valid), omega (arith, c.group_stride-apart.ensures, g.most), c.requires.1)
 
-pub overflow_add-second : goal.overflow_add-second
-overflow_add-second c = omega (arith, small (goal.at.overflow_add-second c).After-selected-first, c.selected-first.ensures.1)
-
 pub overflow_add-third : goal.overflow_add-third
 overflow_add-third c = omega (arith, small (goal.at.overflow_add-third c).After-selected-first, c.selected-first.ensures.1)
 
 pub overflow_add-result : goal.overflow_add-result
 overflow_add-result c = omega (arith, small (goal.at.overflow_add-result c).After-selected-first, c.selected-first.ensures.1)
-
-pub returns : goal.returns
-returns c = group_list c.args.vector_bytes _ _ c.group_stride-apart.ensures c.selected-first.ensures.0

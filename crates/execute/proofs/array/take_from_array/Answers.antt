@@ -3,11 +3,7 @@
 use native.Mathlib.Nat.{mod-lt}
 use Rattle.settings.proofs.SettingsLaws.{vector_valid}
 use Rattle.execute.proofs.MoveLaws.{groups, taken_from_array}
-use borrow.Author.Rules.{rules}
 use Rattle.execute.proofs.array.take_from_array.Goals as goal
-
-pub group_of-group-requires : goal.group_of-group-requires
-group_of-group-requires c = search (rules, vector_valid)
 
 pub take_group-requires : goal.take_group-requires
 take_group-requires c =

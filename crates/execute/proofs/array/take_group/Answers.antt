@@ -1,51 +1,20 @@
--- `execute::array::take_group` meets its contract: one vector more is taken with each call.
+-- `execute::array::take_group` meets its contract: one vector more is taken with each turn.
 -- Assumes nothing.
-use mathlib.Core.Path.{◌≡◌, ◌∙◌}
-use native.Mathlib.Omega.{arith}
+use Rattle.std.proofs.Common.{◌<◌, arith, length-take}
+use lib.Seq.{get_or-take}
 use Rattle.encoding.specs.Flat.{registers_of}
-use Rattle.execute.proofs.MoveLaws.{two_registers, first_ready, second_ready, vector_ready, two_taken, one_more}
+use Rattle.execute.proofs.MoveLaws.{taken_none, one_more}
 use Rattle.execute.proofs.array.take_group.Goals as goal
 
-pub take_vector-requires : goal.take_vector-requires
-take_vector-requires c =
+pub loop-i-init : goal.loop-i-init
+loop-i-init c =
     let e = c.requires in
     let a = c.args in
-    first_ready a.settings a.zeroes a.zd a.registers a.group a.z.now a.za.now e.0 e.1 e.2
+    taken_none a.settings a.zeroes a.zd a.registers a.group a.z.now a.za.now e.0 e.1 e.2
 
-pub take_vector-requires-2 : goal.take_vector-requires-2
-take_vector-requires-2 c =
+pub loop-i-preserved : goal.loop-i-preserved
+loop-i-preserved c =
     let e = c.requires in
     let a = c.args in
-    second_ready a.settings a.zeroes a.zd a.registers a.group a.z.now a.za.now e.0 e.1 e.2 c.take_vector.ensures
-
-pub take_vector-requires-then-number-eq4 : goal.take_vector-requires-then-number-eq4
-take_vector-requires-then-number-eq4 c =
-    let e = c.requires in
-    let a = c.args in
-    let four : registers_of a.registers ≡ 4 = omega (arith, c.number.ensures.0, c.if-number-eq4.true) in
-    let two = two_taken a.settings a.zeroes a.zd a.registers a.group a.z.now a.za.now e.0 e.1 e.2 c.take_vector.ensures c.take_vector-2.ensures in
-    vector_ready a.settings a.zeroes a.zd a.registers a.group a.z.now a.za.now e.0 e.1 e.2 2 (omega arith) two
-
-pub take_vector-requires-then-number-eq4-2 : goal.take_vector-requires-then-number-eq4-2
-take_vector-requires-then-number-eq4-2 c =
-    let e = c.requires in
-    let a = c.args in
-    let four : registers_of a.registers ≡ 4 = omega (arith, c.number.ensures.0, c.if-number-eq4.true) in
-    let two = two_taken a.settings a.zeroes a.zd a.registers a.group a.z.now a.za.now e.0 e.1 e.2 c.take_vector.ensures c.take_vector-2.ensures in
-    let three = one_more a.settings a.zeroes a.zd a.registers a.group a.z.now a.za.now e.0 e.1 e.2 2 (omega arith) two c.take_vector-then-number-eq4.ensures in
-    vector_ready a.settings a.zeroes a.zd a.registers a.group a.z.now a.za.now e.0 e.1 e.2 3 (omega arith) three
-
-pub returns-then-number-eq4 : goal.returns-then-number-eq4
-returns-then-number-eq4 c =
-    let e = c.requires in
-    let a = c.args in
-    let four : registers_of a.registers ≡ 4 = omega (arith, c.number.ensures.0, c.if-number-eq4.true) in
-    let two = two_taken a.settings a.zeroes a.zd a.registers a.group a.z.now a.za.now e.0 e.1 e.2 c.take_vector.ensures c.take_vector-2.ensures in
-    let three = one_more a.settings a.zeroes a.zd a.registers a.group a.z.now a.za.now e.0 e.1 e.2 2 (omega arith) two c.take_vector-then-number-eq4.ensures in
-    rw four (one_more a.settings a.zeroes a.zd a.registers a.group a.z.now a.za.now e.0 e.1 e.2 3 (omega arith) three c.take_vector-then-number-eq4-2.ensures)
-
-pub returns-else-number-eq4 : goal.returns-else-number-eq4
-returns-else-number-eq4 c =
-    let e = c.requires in
-    let a = c.args in
-    rw (two_registers a.registers (λ four. c.if-number-eq4.false (c.number.ensures.0 ∙ four))) (two_taken a.settings a.zeroes a.zd a.registers a.group a.z.now a.za.now e.0 e.1 e.2 c.take_vector.ensures c.take_vector-2.ensures)
+    let below : c.loop-i.i < registers_of a.registers = omega (arith, c.loop-i-test.true, c.number.ensures.0, length-take c.number.result a.group) in
+    one_more a.settings a.zeroes a.zd a.registers a.group a.z.now a.za.now e.0 e.1 e.2 c.loop-i.i below c.loop-i.invariant (rw (get_or-take c.number.result a.group c.loop-i.i 0 (omega (arith, below, c.number.ensures.0))) at c.take_vector.ensures)

@@ -5,9 +5,6 @@ use Rattle.settings.proofs.SettingsLaws.{vector_length_small, vector_valid}
 use Rattle.execute.proofs.MoveLaws.{vector_paired, vector_apart, vector_copied, vector_taken}
 use Rattle.execute.proofs.array.take_vector.Goals as goal
 
-pub vector_span-to-requires : goal.vector_span-to-requires
-vector_span-to-requires c = let e = c.requires in (e.0.vectors, omega (arith, e.1))
-
 pub vector_span-from-requires : goal.vector_span-from-requires
 vector_span-from-requires c =
     let e = c.requires in

@@ -1,16 +1,7 @@
 -- `execute::tile::take_from_tile` meets its contract: both spans are what the leaf asks for, and it writes what the definition says.
 -- Assumes nothing.
-use native.Mathlib.Omega.{arith}
 use Rattle.execute.proofs.MoveLaws.{from_slice, slice_apart, taken_slice, zeroed_slice, taken_from_tile}
 use Rattle.execute.proofs.tile.take_from_tile.Goals as goal
-
-pub slice_span-from-requires : goal.slice_span-from-requires
-slice_span-from-requires c =
-    let e = c.requires in
-    (e.0.vectors, omega (arith, e.0.x, e.1.slice.index), e.1.slice.offset, e.1.slice.tile)
-
-pub vector_span-to-requires : goal.vector_span-to-requires
-vector_span-to-requires c = let e = c.requires in (e.0.vectors, omega (arith, e.1.vector))
 
 pub take-requires : goal.take-requires
 take-requires c =

@@ -1,8 +1,9 @@
--- `moves::run::merge_by_byte` meets its contract: after j turns what goes by j predicate bytes is merged.
+-- `moves::run::merge_by_byte` meets its contract: up to predicate byte i what goes by those from the first on is merged.
 -- Assumes nothing.
 use mathlib.Core.Path.{◌≡◌}
+use Prim.Native.Nat.{◌-◌}
 use Rattle.moves.specs.Mask.{merged_by}
 use Rattle.moves.proofs.run.merge_by_byte.Given as goal
 
-abbrev pub invariant-loop-j : goal.invariant-loop-j
-invariant-loop-j l = l.dst ≡ merged_by l.p l.bits.size l.src l.first l.j l.initial.dst
+abbrev pub invariant-loop-i : goal.invariant-loop-i
+invariant-loop-i l = l.dst ≡ merged_by l.p l.bits.size l.src l.first (l.i - l.first) l.initial.dst

@@ -2,14 +2,8 @@
 -- Assumes nothing.
 use native.Mathlib.Omega.{arith}
 use mathlib.Core.Path.{sym, ◌∙◌}
-use Rattle.planner.proofs.TileLaws.{tile_exists, tile_some, shares_inside, shares_sym}
+use Rattle.planner.proofs.TileLaws.{tile_exists, shares_inside, shares_sym}
 use Rattle.planner.proofs.tile.is_shared.Goals as goal
-
-pub nonzero_rem-result : goal.nonzero_rem-result
-nonzero_rem-result c = tile_some _ (tile_exists _ c.requires.0)
-
-pub nonzero_rem-result-else-a-b : goal.nonzero_rem-result-else-a-b
-nonzero_rem-result-else-a-b c = tile_some _ (tile_exists _ c.requires.1)
 
 pub returns-then-a-b : goal.returns-then-a-b
 returns-then-a-b c = sym (shares_inside _ _ (tile_exists _ c.requires.0) (tile_exists _ c.requires.1) (omega arith))

@@ -1,14 +1,12 @@
--- `text::digits::digit_value` meets its contract: the index of the first digit that is the byte, and 16 where there is none.
+-- `text::digits::digit_value` meets its contract.
 -- Assumes nothing.
-use Rattle.std.proofs.Common.{◌≡◌, ◌∙◌, sym, rules, tests, arith}
-use Rattle.std.proofs.lemmas.Iterator.{IsFirst-from_position, YieldsList-from_slice}
-use Rattle.text.specs.Digits.{hex_bytes}
-use Rattle.text.proofs.DigitLaws.{index_of-first, index_of-le}
+use Rattle.std.proofs.Common.{rules, tests, sym, ◌∙◌, eqb}
+use Rattle.std.proofs.lemmas.Iterator.{YieldsList-from_slice}
+use Rattle.std.proofs.lemmas.Iterator.Search.{position_from_yields_List}
 use Rattle.text.proofs.digits.digit_value.Goals as goal
 
-pub returns : goal.returns
-returns c =
+pub returns-in_err-value-clause-value : goal.returns-in_err-value-clause-value
+returns-in_err-value-clause-value c =
     let b = c.args.byte in
-    let first = IsFirst-from_position _ _ c.position.result (λ x. x ≡ b) (λ x. x ≡ b → ⊥) c.position.ensures.ran (YieldsList-from_slice _ c.iter.ensures.rest) (λ x q k. search (rules, tests)) (λ x q k. search (rules, tests)) in
-    let index = c.unwrap_or.ensures ∙ sym (index_of-first b hex_bytes c.position.result first) in
-    (index, omega (arith, index, index_of-le b hex_bytes))
+    c.from_residual.ensures ∙ sym c.in_err-value.was
+    ∙ position_from_yields_List (λ x. eqb x b) _ _ _ c.position.ensures.ran (YieldsList-from_slice _ c.iter.ensures.rest) (λ x r q k. search (rules, tests))

@@ -1,15 +1,9 @@
--- `text::hex_number` meets its contract. The loop's invariant: the first `i` bytes are digits, and `number` is what they are.
--- The measure is how many are left.
+-- `text::hex_number` meets its contract. The loop's invariant: the digits behind go on from the number of those before, of which there are no more than
+-- eight.
 -- Assumes nothing.
-use mathlib.Core.Path.{◌≡◌}
-use mathlib.Core.Bool.{true}
-use Prim.Native.Nat.{◌≤◌, ◌-◌}
-use lib.ListN.{length}
-use Rattle.text.specs.Digits.{all_digits, number_read}
+use Rattle.std.proofs.Common.{◌≡◌, ◌<◌, ◌^◌, drop}
+use Rattle.text.specs.Digits.{number_on}
 use Rattle.text.proofs.digits.hex_number.Given as goal
 
-abbrev pub invariant-loop-i : goal.invariant-loop-i
-invariant-loop-i l = (l.i ≤ length l.digits) × (all_digits l.digits l.i ≡ true) × (l.number ≡ number_read l.digits l.i)
-
-abbrev pub decreases-loop-i : goal.decreases-loop-i
-decreases-loop-i l = length l.digits - l.i
+abbrev pub invariant-loop-digit : goal.invariant-loop-digit
+invariant-loop-digit l = (number_on l.number (drop l.digit-index l.digits) ≡ number_on 0 l.digits) × (l.number < 16 ^ l.digit-index)

@@ -1,12 +1,8 @@
--- `text::put` meets its contract. The loop's invariant: the first `i` bytes are put. The measure is how many are left.
+-- `text::put` meets its contract. The loop's invariant: the bytes before are put.
 -- Assumes nothing.
-use Prim.Native.Nat.{◌≤◌, ◌-◌}
-use lib.ListN.{length, take}
+use lib.ListN.{take}
 use Rattle.text.specs.Line.{Puts}
 use Rattle.text.proofs.line.put.Given as goal
 
-abbrev pub invariant-loop-i : goal.invariant-loop-i
-invariant-loop-i l = (l.i ≤ length l.bytes) × Puts l.initial.line l.at (take l.i l.bytes) l.line l.next
-
-abbrev pub decreases-loop-i : goal.decreases-loop-i
-decreases-loop-i l = length l.bytes - l.i
+abbrev pub invariant-loop-byte : goal.invariant-loop-byte
+invariant-loop-byte l = Puts l.initial.line l.at (take l.byte-index l.bytes) l.line l.next

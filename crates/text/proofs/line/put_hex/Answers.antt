@@ -7,4 +7,4 @@ use Rattle.text.proofs.line.put_hex.Goals as goal
 
 pub returns : goal.returns
 returns c =
-    puts_cong (rw (c.hex_digits-digits.ensures, hex_digits-last c.least-skipped.result _ (omega arith), c.least-skipped.ensures)) c.put.ensures
+    puts_cong (rw (c.hex_digits-digits.ensures, hex_digits-last c.min-skipped.result _ (omega arith), c.min-skipped.ensures)) c.put.ensures

@@ -11,9 +11,6 @@ use Rattle.tiles.proofs.slice.selected.Goals as goal
 below : (w n : ℕ) → PowerOfTwo n → (bit_and w (n - 1) ≡ w % n) × (w % n < n)
 below w n p = rw p.equal (and_mask w p.exponent, mod-lt w (pow_pos p.exponent))
 
-pub overflow_sub-result : goal.overflow_sub-result
-overflow_sub-result c = rw c.requires.0.equal (pow_pos c.requires.0.exponent)
-
 pub returns : goal.returns
 returns c =
     let b = below (c.args.x % 4294967296 + c.args.offset) c.args.n c.requires.0 in

@@ -12,6 +12,3 @@ overflow_mul-result c =
     let few : c.args.number ≤ 255 = omega arith in
     let short : c.stride.result / 8 ≤ 32 = omega (arith, c.stride.ensures, f.longest) in
     omega (arith, mul-le-mul few short)
-
-pub returns : goal.returns
-returns c = rw c.stride.ensures

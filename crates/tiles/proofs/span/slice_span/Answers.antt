@@ -29,31 +29,14 @@ selected-number-requires c =
     let valid = vector_valid c.args.settings c.requires.0 in
     (rw count (elements_power size _ valid), rw count (whole_elements size _ valid).few, c.requires.2)
 
-pub overflow_mul-result : goal.overflow_mul-result
-overflow_mul-result c = omega (arith, small (goal.at.overflow_mul-result c).After-stride-stride)
-
-pub overflow_add-result : goal.overflow_add-result
-overflow_add-result c = omega (arith, small (goal.at.overflow_add-result c).After-stride-stride)
-
 pub overflow_mul-result-in-Horizontal : goal.overflow_mul-result-in-Horizontal
 overflow_mul-result-in-Horizontal c = omega (arith, small (goal.at.overflow_mul-result-in-Horizontal c).After-stride-stride)
 
 pub overflow_mul-result-in-Vertical : goal.overflow_mul-result-in-Vertical
 overflow_mul-result-in-Vertical c = omega (arith, small (goal.at.overflow_mul-result-in-Vertical c).After-stride-stride)
 
-pub overflow_mul-result-in-Vertical-2 : goal.overflow_mul-result-in-Vertical-2
-overflow_mul-result-in-Vertical-2 c = omega (arith, small (goal.at.overflow_mul-result-in-Vertical-2 c).After-stride-stride)
-
 pub overflow_add-result-in-Vertical : goal.overflow_add-result-in-Vertical
 overflow_add-result-in-Vertical c = omega (arith, small (goal.at.overflow_add-result-in-Vertical c).After-stride-stride)
 
 pub overflow_mul-result-in-Vertical-3 : goal.overflow_mul-result-in-Vertical-3
 overflow_mul-result-in-Vertical-3 c = omega (arith, small (goal.at.overflow_mul-result-in-Vertical-3 c).After-stride-stride)
-
-pub returns-in-Horizontal : goal.returns-in-Horizontal
-returns-in-Horizontal c =
-    rw (number (goal.at.returns-in-Horizontal c).After-stride-stride, c.bytes-m.ensures.0, c.elements_in-count.ensures, c.stride-stride.ensures, c.in-Horizontal.is)
-
-pub returns-in-Vertical : goal.returns-in-Vertical
-returns-in-Vertical c =
-    rw (number (goal.at.returns-in-Vertical c).After-stride-stride, c.bytes-m.ensures.0, c.elements_in-count.ensures, c.stride-stride.ensures, c.in-Vertical.is)

@@ -1,19 +1,11 @@
 -- `tiles::span::vector_span` meets its contract: vectors start a stride apart.
 -- Assumes nothing.
-use mathlib.Core.Path.{ap, ◌∙◌}
-use Prim.Native.Nat.{ℕ, ◌*◌}
 use native.Mathlib.Nat.{mul-le-mul}
 use native.Mathlib.Omega.{arith}
 use Rattle.settings.proofs.SettingsLaws.{stride_fits}
-use Rattle.tiles.specs.Span.{run_from}
 use Rattle.tiles.proofs.span.vector_span.Goals as goal
 
 pub overflow_mul-number : goal.overflow_mul-number
 overflow_mul-number c =
     let f = stride_fits c.args.settings c.requires.0 in
     rw c.stride.ensures (omega (arith, mul-le-mul c.requires.1 f.longest))
-
-pub returns : goal.returns
-returns c =
-    let a = c.args in
-    c.run_from.ensures ∙ ap (λ (S : ℕ). run_from a.settings a.size (a.number * S)) c.stride.ensures
