@@ -42,7 +42,7 @@ pub fn put_hex(line: &mut [u8], at: usize, number: u32, count: usize) -> usize
 }
 
 // Puts the decimal digits of a number, with no zero in front, and returns the position after them,
-// as `put_byte` does.
+// as `put_byte` does. `io::decimal` gives digits and their count, and takes no slice: they are the first of twenty.
 pub fn put_decimal(line: &mut [u8], at: usize, number: u64) -> usize
     ensures { Puts line.old at (decimal_of number) line.new result }
 {
