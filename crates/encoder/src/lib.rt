@@ -14,7 +14,8 @@ use encoding::{
 };
 use tiles::{ElementSize, TileSlice};
 
-// The word of an operation.
+// The word of an operation. Inlined always, as `flatten` of flat is: else encoding eleven numbers takes 1.4 times the instructions (docs/DECISIONS.md).
+#[inline(always)]
 pub fn encode(operation: Operation) -> Result<u32, OutOfRange>
     ensures { Encodes operation result }
 {

@@ -14,7 +14,8 @@ use encoding::{
 use tiles::{Direction, ElementSize, TileSlice};
 
 // The eleven numbers of an operation. A function, as `unflatten` is, and no From: docs/PROOFS.md names both, and operation and numbers are
-// types of other crates, so that no impl may stand here.
+// types of other crates, so that no impl may stand here. Inlined always, as `encode` of encoder is.
+#[inline(always)]
 pub fn flatten(operation: Operation) -> [u8; 11]
     ensures { result ≡ flat_of operation }
 {
