@@ -4,15 +4,29 @@ use Prim.Native.Nat.{ℕ}
 use mathlib.Core.Path.{◌≡◌, refl, ap, ◌∙◌, subst}
 use mathlib.Core.List.{List, [], ◌∷◌}
 use lib.ListN.{set}
+use Rattle.std.specs.Prelude.{Result, ⊤, Ok, Err}
+use Rattle.std.specs.Result.{MatchResult}
+use Rattle.settings.specs.Answer.{done}
+use Rattle.semantics.specs.Answer.{no_fault}
+use Rattle.listing.specs.declared.answer.ListingRefusal.{ListingRefusal}
 use Rattle.settings.specs.Results.{filled}
 use Rattle.settings.specs.declared.Settings.{Settings}
 use Rattle.settings.proofs.ResultLaws.{puts_more}
 use Rattle.semantics.specs.State.{State}
 use Rattle.semantics.specs.declared.answer.Fault.{Fault}
-use Rattle.listing.specs.Answer.{listed_number, listed_fault, listing_numbers}
+use Rattle.listing.specs.Answer.{listing_refusal_number, listing_refusal_fault, listed_number, listed_fault, listing_numbers}
 use Rattle.listing.specs.Promise.{RunsListing}
 use Rattle.listing.specs.declared.answer.ListingRun.{ListingRun}
 use Rattle.sme_listing.specs.Export.{ListingExports}
+
+-- the number of an answer, and what it carries
+pub numbered : (e : Result ⊤ ListingRefusal) (n : ℕ) → MatchResult e (λ _. n ≡ done) (λ r. n ≡ listing_refusal_number r) → n ≡ listed_number e
+numbered (Ok u) n h = h
+numbered (Err r) n h = h
+
+pub faulted : (e : Result ⊤ ListingRefusal) (f : Fault) → MatchResult e (λ _. f ≡ no_fault) (λ r. f ≡ listing_refusal_fault r) → f ≡ listed_fault e
+faulted (Ok u) f h = h
+faulted (Err r) f h = h
 
 -- the results, put one after the other
 pub fills : (old : List ℕ) (q : ListingRun) {once twice thrice : List ℕ} (f : Fault) → f ≡ listed_fault q.answer → once ≡ set old 0 f.address → twice ≡ set once 1 f.element → thrice ≡ set twice 2 q.words → thrice ≡ filled (listing_numbers q) old

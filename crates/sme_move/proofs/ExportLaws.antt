@@ -5,13 +5,15 @@ use Prim.Native.Nat.{ℕ}
 use mathlib.Core.Path.{◌≡◌, refl, ◌∙◌, ap, subst}
 use mathlib.Core.List.{List, [], ◌∷◌}
 use lib.ListN.{set}
+use Rattle.std.specs.Result.{MatchResult}
+use Rattle.settings.specs.Answer.{done}
 use Rattle.settings.specs.declared.Settings.{Settings}
 use Rattle.encoding.specs.Answer.{decoded_answer}
 use Rattle.encoding.specs.declared.operation.Operation.{Operation}
 use Rattle.settings.specs.Results.{filled}
 use Rattle.settings.proofs.ResultLaws.{puts_more}
 use Rattle.semantics.specs.declared.answer.Refusal.{Refusal}
-use Rattle.semantics.specs.Answer.{executed_number, executed_fault, result_numbers}
+use Rattle.semantics.specs.Answer.{refusal_number, refusal_fault, no_fault, executed_number, executed_fault, result_numbers}
 use Rattle.semantics.specs.State.{State}
 use Rattle.semantics.specs.Promise.{Executes}
 use Rattle.semantics.specs.declared.answer.Fault.{Fault}
@@ -28,6 +30,15 @@ fields_stay (Err BadLevel) f k = refl
 fields_stay (Err Undecodable) f k = refl
 
 -- ---- results
+
+-- the number of an answer, and what it carries
+pub numbered : (e : Result ⊤ Refusal) (n : ℕ) → MatchResult e (λ _. n ≡ done) (λ r. n ≡ refusal_number r) → n ≡ executed_number e
+numbered (Ok u) n h = h
+numbered (Err r) n h = h
+
+pub faulted : (e : Result ⊤ Refusal) (f : Fault) → MatchResult e (λ _. f ≡ no_fault) (λ r. f ≡ refusal_fault r) → f ≡ executed_fault e
+faulted (Ok u) f h = h
+faulted (Err r) f h = h
 
 -- the results of an execution, put one after the other
 pub fills : (old : List ℕ) (e : Result ⊤ Refusal) {once twice : List ℕ} (f : Fault) → f ≡ executed_fault e → once ≡ set old 0 f.address → twice ≡ set once 1 f.element → twice ≡ filled (result_numbers e) old
