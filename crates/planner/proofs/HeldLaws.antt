@@ -10,10 +10,10 @@ use lib.Dec.{leb}
 use lib.Seq.{take_all}
 use Rattle.std.proofs.Common.{All}
 use Rattle.std.specs.List.{list_any}
-use lib.ListN.{length, get_or, take, drop}
-use lib.Seq.{drop-cons, drop-drop, get_or-take, length-take-le}
+use lib.ListN.{length, get_or, take, drop, length-drop}
+use lib.Seq.{drop-cons, drop-drop, drop-length, get_or-take, length-take-le}
 use borrow.Author.Tests.{leb-true}
-use Rattle.general.proofs.BoolLaws.{and_parts}
+use Rattle.general.proofs.BoolLaws.{and_parts, refute, clash}
 use Rattle.planner.specs.Tile.{no_tile, is_tile, shares, is_free, is_valid}
 use Rattle.planner.specs.Held.{held_tiles, valid_held}
 use Rattle.planner.specs.declared.tile.Tile.{Tile}
@@ -55,60 +55,44 @@ valid_exists [] e k d w = absurd (omega arith)
 valid_exists (x ∷ xs) e zero d w = (valid_head x xs e).0
 valid_exists (x ∷ xs) e (suc k) d w = valid_exists xs (valid_head x xs e).2 k d (omega arith)
 
--- a list that has a first tile is valid where that exists, is free beside the others, and these are valid
-module _ (ts : List Tile) (some : 1 ≤ length ts) where
-  abbrev pub others : List Tile
-  others = take (length ts - 1) (drop 1 ts)
-
-  abbrev pub first : Tile
-  first = get_or ts 0 no_tile
-
-  pub valid_first : is_valid ts ≡ is_tile first && is_free others first && is_valid others
-  unfolding is_valid
-  valid_first = go ts some
-    where
-      go : (ts : List Tile) → 1 ≤ length ts → is_valid ts ≡ is_tile (get_or ts 0 no_tile) && is_free (take (length ts - 1) (drop 1 ts)) (get_or ts 0 no_tile) && is_valid (take (length ts - 1) (drop 1 ts))
-      go [] s = absurd (omega arith)
-      go (x ∷ xs) s = let e : take (length (x ∷ xs) - 1) xs ≡ xs = take_all (length (x ∷ xs) - 1) xs (omega arith) in rw e
-
-  pub valid_where : (b : Bool) → is_tile first ≡ true → is_valid others ≡ true → b ≡ is_free others first → b ≡ is_valid ts
-  valid_where b p q e = e ∙ sym (valid_first ∙ rw (p, q) (go (is_free others first)))
-    where
-      go : (b : Bool) → b && true ≡ b
-      go true = refl
-      go false = refl
-
-  pub valid_not_first : is_tile first ≡ false → is_valid ts ≡ false
-  valid_not_first p = valid_first ∙ rw p
-
-  pub valid_not_others : is_valid others ≡ false → is_valid ts ≡ false
-  valid_not_others q = valid_first ∙ rw q (go (is_tile first && is_free others first))
-    where
-      go : (b : Bool) → b && false ≡ false
-      go true = refl
-      go false = refl
-
-pub valid_none : (ts : List Tile) → length ts < 1 → is_valid ts ≡ true
+-- after the last tile there is none
+pub nothing_valid : (ts : List Tile) → is_valid (drop (length ts) ts) ≡ true
 unfolding is_valid
-valid_none [] w = refl
-valid_none (x ∷ xs) w = absurd (omega arith)
+nothing_valid ts = rw (drop-length ts)
 
 -- ---- at place i, with j the place after it
 
-module _ (ts : List Tile) (n i j : ℕ) (s : i + 1 ≡ j) (w : i < n) (h : n ≤ length ts) where
+module _ (ts : List Tile) (i j : ℕ) (s : i + 1 ≡ j) (w : i < length ts) where
   -- the tile there, then those after it
-  held_step : drop i (take n ts) ≡ get_or ts i no_tile ∷ drop j (take n ts)
-  held_step = drop-cons (take n ts) i no_tile (rw (length-take-le n ts h) w) ∙ rw (get_or-take n ts i no_tile w, ← s, add-one i)
+  held_step : drop i ts ≡ get_or ts i no_tile ∷ drop j ts
+  held_step = drop-cons ts i no_tile w ∙ rw (← s, add-one i)
 
-  valid_at : is_valid (drop i (take n ts)) ≡ true → (is_tile (get_or ts i no_tile) ≡ true) × (is_free (drop j (take n ts)) (get_or ts i no_tile) ≡ true)
+  -- those after it, as code lends them
+  abbrev pub others : List Tile
+  others = take (length ts - (i + 1)) (drop (i + 1) ts)
+
+  pub others_lem : others ≡ drop j ts
+  others_lem = take_all (length ts - (i + 1)) (drop (i + 1) ts) (omega (arith, length-drop (i + 1) ts)) ∙ ap (λ (k : ℕ). drop k ts) s
+
+  pub valid_back : is_tile (get_or ts i no_tile) ≡ true → is_free others (get_or ts i no_tile) ≡ true → is_valid (drop j ts) ≡ true → is_valid (drop i ts) ≡ true
+  valid_back p q r = rw held_step (valid_cons _ _ p (rw others_lem at q) r)
+
+  valid_at : is_valid (drop i ts) ≡ true → (is_tile (get_or ts i no_tile) ≡ true) × (is_free (drop j ts) (get_or ts i no_tile) ≡ true)
   valid_at e = let p = valid_head _ _ (rw held_step at e) in (p.0, p.1)
+
+  pub invalid_tile : is_tile (get_or ts i no_tile) ≡ false → is_valid ts ≡ false
+  invalid_tile e = refute _ (λ v. clash _ (valid_at (valid_drop i ts v)).0 e)
+
+  pub invalid_shared : is_free others (get_or ts i no_tile) ≡ false → is_valid ts ≡ false
+  invalid_shared e = refute _ (λ v. clash _ (valid_at (valid_drop i ts v)).1 (rw others_lem at e))
 
 -- every tile of a valid list exists
 pub valid_tiles : (ts : List Tile) (n i j : ℕ) → is_valid (drop i (take n ts)) ≡ true → i ≤ j → j < n → n ≤ length ts → is_tile (get_or ts j no_tile) ≡ true
 valid_tiles ts n i j e ij jn h =
     let s : i + (j - i) ≡ j = omega arith in
     let d : drop (j - i) (drop i (take n ts)) ≡ drop j (take n ts) = drop-drop (j - i) i (take n ts) ∙ ap (λ (k : ℕ). drop k (take n ts)) s in
-    (valid_at ts n j (j + 1) refl jn h (rw d at (valid_drop (j - i) (drop i (take n ts)) e))).0
+    ap is_tile (sym (get_or-take n ts j no_tile jn))
+    ∙ (valid_at (take n ts) j (j + 1) refl (rw (length-take-le n ts h) jn) (rw d at (valid_drop (j - i) (drop i (take n ts)) e))).0
 
 -- ---- records
 

@@ -48,12 +48,15 @@ pub fn is_free(others: &[Tile], x: Tile) -> bool
     !others.iter().any(|y| is_shared(x, *y))
 }
 
-// Whether tiles exist and no two share a byte.
+// Whether tiles exist and no two share a byte: from the last one back, each with those after it.
 fn is_valid(tiles: &[Tile]) -> bool
     ensures { result ≡ is_valid tiles.now }
 {
-    match tiles {
-        [] => true,
-        [x, others @ ..] => is_valid(others) && is_tile(*x) && is_free(others, *x),
+    for i in (0..tiles.len()).rev() {
+        let x = tiles[i];
+        if !is_tile(x) || !is_free(&tiles[i + 1..], x) {
+            return false;
+        }
     }
+    true
 }
