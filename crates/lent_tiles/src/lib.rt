@@ -33,10 +33,13 @@ fn held_in(tiles: &[u64], count: usize) -> Held
     }
 }
 
-// Taking a tile, which is refused where the array has no place for it.
+// Taking a tile, which is refused where the array has no place for it. For a size that is none no held tile is read.
 fn take_in(tiles: &[u64], count: usize, bytes: u64) -> Result<Taken, TileRefusal>
     ensures { result ≡ take_in tiles.now count bytes }
 {
+    if !planner::is_size(bytes) {
+        return Err(TileRefusal::BadSize);
+    }
     let taken = planner::take(held_in(tiles, count), bytes)?;
     if tiles.len() / 2 < taken.held.count {
         return Err(TileRefusal::BadHeld);

@@ -12,4 +12,4 @@ pub use answer::{Taken, TileRefusal};
 pub use giving_up::give_up;
 pub use held::Held;
 pub use taking::take;
-pub use tile::Tile;
+pub use tile::{Tile, is_size};

@@ -4,10 +4,15 @@ use Rattle.std.proofs.Common.{◌≡◌, Err, sym, ap, ◌∙◌}
 use Rattle.std.proofs.lemmas.Result.{err_from_is_err_and}
 use Rattle.planner.specs.Held.{take_of}
 use Rattle.planner.specs.declared.held.Held.{Held}
+use Rattle.planner.proofs.RoomLaws.{take_size}
 use Rattle.lent_tiles.specs.Lent.{held_in}
 use Rattle.lent_tiles.proofs.LentLaws.{take_refused, take_unplaced, take_placed}
 use Rattle.lent_tiles.proofs.take_in.Goals.{After-take}
 use Rattle.lent_tiles.proofs.take_in.Goals as goal
+
+pub returns-then-not-is_size : goal.returns-then-not-is_size
+returns-then-not-is_size c =
+    take_refused c.args.tiles.now c.args.count c.args.bytes _ (take_size (held_in c.args.tiles.now c.args.count) c.args.bytes (sym c.is_size.ensures ∙ c.if-not-is_size.true))
 
 -- what was taken is what the held tiles of the array give
 took : (c : After-take) → take_of (held_in c.args.tiles.now c.args.count) c.args.bytes ≡ c.take.result
