@@ -14,6 +14,17 @@ pub struct Window {
     ghost ends: { skip + tail ≤ max_vector_bytes },
 }
 
+// Copies a part of a window, if it has bytes: mostly one of the two is empty, or both are, and a `memcpy` of no bytes is a call all the same. Without the
+// test a store of which memory has no byte took up to 1.14 times the instructions.
+fn copy_part(to: &mut [u8], from: &[u8])
+    requires { length to.old ≡ length from.now }
+    ensures { to.new ≡ from.now }
+{
+    if !from.is_empty() {
+        to.copy_from_slice(from);
+    }
+}
+
 impl Window {
     ghost use Rattle.access.specs.Window.{Windowed, Fits, window_read, window_written};
 
@@ -46,8 +57,14 @@ impl Window {
         requires { Fits self (length vector.old) (length memory.now) }
         ensures { vector.new ≡ window_read self memory.now vector.old }
     {
-        vector[..self.head].copy_from_slice(&memory[self.at..self.at + self.head]);
-        vector[self.skip..self.skip + self.tail].copy_from_slice(&memory[..self.tail]);
+        copy_part(
+            &mut vector[..self.head],
+            &memory[self.at..self.at + self.head],
+        );
+        copy_part(
+            &mut vector[self.skip..self.skip + self.tail],
+            &memory[..self.tail],
+        );
     }
 
     // The way back.
@@ -55,7 +72,13 @@ impl Window {
         requires { Fits self (length vector.now) (length memory.old) }
         ensures { memory.new ≡ window_written self vector.now memory.old }
     {
-        memory[self.at..self.at + self.head].copy_from_slice(&vector[..self.head]);
-        memory[..self.tail].copy_from_slice(&vector[self.skip..self.skip + self.tail]);
+        copy_part(
+            &mut memory[self.at..self.at + self.head],
+            &vector[..self.head],
+        );
+        copy_part(
+            &mut memory[..self.tail],
+            &vector[self.skip..self.skip + self.tail],
+        );
     }
 }

@@ -9,5 +9,5 @@ pub returns : goal.returns
 returns c =
     let a = c.args in
     let f = c.requires in
-    let first = copied_front a.self.at a.self.head a.memory.now a.vector.now f.first (omega (arith, a.self.ordered, f.end)) c.copy_from_slice.ensures.after in
-    rw first (copied_inside a.self.skip a.self.tail a.memory.now _ f.second (rw (length-scatter _ _ _ a.self.head a.vector.now) f.end) c.copy_from_slice-2.ensures.after)
+    let first = copied_front a.self.at a.self.head a.memory.now a.vector.now f.first (omega (arith, a.self.ordered, f.end)) c.copy_part.ensures in
+    rw first (copied_inside a.self.skip a.self.tail a.memory.now _ f.second (rw (length-scatter _ _ _ a.self.head a.vector.now) f.end) c.copy_part-2.ensures)

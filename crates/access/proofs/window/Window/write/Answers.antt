@@ -9,5 +9,5 @@ pub returns : goal.returns
 returns c =
     let a = c.args in
     let f = c.requires in
-    let first = copied_inside a.self.at a.self.head a.vector.now a.memory.now (omega (arith, a.self.ordered, f.end)) f.first c.copy_from_slice.ensures.after in
-    rw first (copied_front a.self.skip a.self.tail a.vector.now _ f.end (rw (length-scatter _ _ _ a.self.head a.memory.now) f.second) c.copy_from_slice-2.ensures.after)
+    let first = copied_inside a.self.at a.self.head a.vector.now a.memory.now (omega (arith, a.self.ordered, f.end)) f.first c.copy_part.ensures in
+    rw first (copied_front a.self.skip a.self.tail a.vector.now _ f.end (rw (length-scatter _ _ _ a.self.head a.memory.now) f.second) c.copy_part-2.ensures)
