@@ -83,7 +83,7 @@ fn put_answer(line: &mut [u8], question: Question) -> usize
 
 // An answer has 34 bytes, so it has room in the buffer of `answer_lines`.
 fn main(rt: HostRuntime) -> io::Result<()> {
-    text::answer_lines::<LENGTH, _>(&rt, &mut rt.reader(), |line, answer| {
+    text::answer_lines::<LENGTH, _, _>(&rt, &mut rt.reader(), |line, answer| {
         let question = question_in(line)?;
         Some(put_answer(answer, question))
     })

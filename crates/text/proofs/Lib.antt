@@ -1,2 +1,4 @@
 mod DigitLaws
 pub mod LineLaws
+mod RecordLaws
+mod AnswerLaws

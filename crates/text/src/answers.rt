@@ -1,5 +1,6 @@
 // Lines that a program reads and answers.
-ghost use Rattle.std.specs.Prelude.{◌≤◌, ◌<◌, ◌^◌, length, IfSome};
+ghost use Rattle.std.specs.Prelude.{ℕ, List, ◌≤◌, ◌<◌, ◌^◌, length, IfSome, IfOk, OnOk, OnErr};
+ghost use Rattle.text.specs.Answers.{TakesUpTo, TakesOne, TakesAll, TakesSome};
 
 use crate::record::read_full;
 use std::io;
@@ -7,13 +8,15 @@ use std::io::Read;
 
 // Reads a line and answers it. Returns whether to go on: not at the end of the input, nor after a
 // line that has no answer. Fails where a read or a write does.
-fn answer_line<const LENGTH: usize, F: Fn(&[u8], &mut [u8]) -> Option<usize>>(
+fn answer_line<const LENGTH: usize, F: Fn(&[u8], &mut [u8]) -> Option<usize>, R: Read>(
     rt: &impl Print,
-    input: &mut impl Read,
+    input: &mut R,
     put_answer: &F,
 ) -> io::Result<bool>
     requires callable { (LENGTH < 2 ^ 63) × F.IsAlwaysCallable put_answer.now }
     requires within { (line : _) (answer : _) (r : _) (after : _) → F.post put_answer.now line answer r after → IfSome r (λ n. n ≤ length after.now) }
+    ensures ok { IfOk result (TakesOne (F.post put_answer.now) LENGTH (R.remaining input.old) (R.remaining input.new)) }
+    ensures err { OnErr result ((bytes : List ℕ) × TakesUpTo LENGTH (R.remaining input.old) bytes (R.remaining input.new)) }
 {
     let mut line = [0u8; LENGTH];
     let length = read_full(input, &mut line)?;
@@ -36,16 +39,22 @@ fn answer_line<const LENGTH: usize, F: Fn(&[u8], &mut [u8]) -> Option<usize>>(
 // Answers line after line, each of `LENGTH` bytes. `put_answer` puts the answer to a line at the start of a buffer
 // of 80 bytes, and returns its length. A line that has no answer is refused, and ends the program. The turns are
 // as many as no input uses up, since nothing says that an input ends.
-pub fn answer_lines<const LENGTH: usize, F: Fn(&[u8], &mut [u8]) -> Option<usize>>(
+// Where the input's bytes are known, the clauses say which of them it lost: lines that have an answer, and behind
+// them the end, or a line that has none; after an Err at most a line more. Where they are not known, as those of
+// standard input, which the programs hand in, the clauses say nothing. What is written no clause can say.
+#[tactic(auto, using(crate::proofs::AnswerLaws::takes_none, crate::proofs::AnswerLaws::takes_more))]
+pub fn answer_lines<const LENGTH: usize, F: Fn(&[u8], &mut [u8]) -> Option<usize>, R: Read>(
     rt: &impl Print,
-    input: &mut impl Read,
+    input: &mut R,
     put_answer: F,
 ) -> io::Result<()>
     requires callable { (LENGTH < 2 ^ 63) × F.IsAlwaysCallable put_answer }
     requires within { (line : _) (answer : _) (r : _) (after : _) → F.post put_answer line answer r after → IfSome r (λ n. n ≤ length after.now) }
+    ensures ok { OnOk result (TakesAll (F.post put_answer) LENGTH (R.remaining input.old) (R.remaining input.new)) }
+    ensures err { OnErr result (TakesSome (F.post put_answer) LENGTH (R.remaining input.old) (R.remaining input.new)) }
 {
     for _ in 0..u64::MAX {
-        if !answer_line::<LENGTH, F>(rt, input, &put_answer)? {
+        if !answer_line::<LENGTH, F, R>(rt, input, &put_answer)? {
             break;
         }
     }

@@ -1,9 +1,10 @@
--- `text::read_full`: the bytes that were read are within the buffer. The measure is how many there is room for.
-use Rattle.std.proofs.Common.{length, ◌-◌, ◌≤◌}
+-- `text::read_full`: the bytes that were read are within the buffer, and stand there. The measure is how many there is room for.
+use Rattle.std.proofs.Common.{length, ◌-◌, ◌≤◌, take}
+use Rattle.std.specs.Io.KnownBytes.{Consumes}
 use Rattle.text.proofs.record.read_full.Given as goal
 
 abbrev pub invariant-loop-done : goal.invariant-loop-done
-invariant-loop-done g l = l.done ≤ length l.buf
+invariant-loop-done g l = (l.done ≤ length l.buf) × Consumes (g.R.Read.remaining l.initial.input) (g.R.Read.remaining l.input) (take l.done l.buf)
 
 abbrev pub decreases-loop-done : goal.decreases-loop-done
 decreases-loop-done g l = length l.buf - l.done
