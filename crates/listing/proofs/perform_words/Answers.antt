@@ -7,6 +7,9 @@ use Rattle.listing.proofs.perform_words.Goals as goal
 pub loop-i-init : goal.loop-i-init
 loop-i-init c = (omega arith, onward_begins _ _ _ _)
 
+pub perform-requires : goal.perform-requires
+perform-requires c = onward_sized _ _ _ _ _ _ c.loop-i.invariant.1 c.requires.0
+
 pub returns-in-Err : goal.returns-in-Err
 returns-in-Err c =
     rw c.into.ensures (onward_refused _ _ _ _ _ _ c.loop-i.invariant.1 _ _ _ c.loop-i-test.true c.word_at-word.ensures c.perform.ensures _ c.in-Err.is)

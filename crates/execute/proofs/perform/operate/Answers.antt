@@ -1,11 +1,34 @@
 -- `execute::perform::operate` meets its contract: each class has the effect of its operation.
 -- Assumes nothing.
 use mathlib.Core.Path.{refl}
+use lib.Dec.{eqb}
 use lib.ListN.{length}
 use Rattle.encoding.specs.declared.operation.Operation.TheVariants.{MovaToTile, MovazFromTile, MovaFromTile}
 use Rattle.encoding.specs.Steps.{array_move}
-use Rattle.execute.proofs.PerformLaws.{array_done, moves_perform}
+use Rattle.encoding.specs.Word.{bits_at}
+use Rattle.decoder.specs.Steps.{array_in, access_in}
+use Rattle.execute.proofs.PerformLaws.{without_memory, without_z, array_range, access_range, array_done, moves_perform}
 use Rattle.execute.proofs.perform.operate.Goals as goal
+
+pub move_to_tile-requires : goal.move_to_tile-requires
+move_to_tile-requires c =
+    (without_memory c.args.settings _ _ _ _ _ c.requires.0, rw c.to_tile_in.ensures (rw c.in-ToTile.is at c.requires.1))
+
+pub move_from_tile-requires : goal.move_from_tile-requires
+move_from_tile-requires c =
+    (without_memory c.args.settings _ _ _ _ _ c.requires.0, rw c.predicated_in.ensures (rw c.in-FromTile.is at c.requires.1))
+
+pub take_from_tile-requires : goal.take_from_tile-requires
+take_from_tile-requires c =
+    (without_memory c.args.settings _ _ _ _ _ c.requires.0, rw c.whole_in.ensures (rw c.in-Take.is at c.requires.1))
+
+pub take_from_array-requires : goal.take_from_array-requires
+take_from_array-requires c =
+    (without_memory c.args.settings _ _ _ _ _ c.requires.0, rw c.array_in-group.ensures (array_range (eqb (bits_at 9 1 c.args.word) 1) (array_in c.in-Array.registers c.args.word) (rw c.in-Array.is at c.requires.1)))
+
+pub access-requires : goal.access-requires
+access-requires c =
+    (without_z c.args.settings _ _ _ _ _ c.requires.0, rw c.access_in-o.ensures (access_range (eqb (bits_at 21 1 c.args.word) 1) (access_in c.in-Access.size c.args.word) (rw c.in-Access.is at c.requires.1)))
 
 pub returns-in-ToTile : goal.returns-in-ToTile
 returns-in-ToTile c =
