@@ -36,12 +36,10 @@ fn answer_line<const LENGTH: usize, F: Fn(&[u8], &mut [u8]) -> Option<usize>, R:
     }
 }
 
-// Answers line after line, each of `LENGTH` bytes. `put_answer` puts the answer to a line at the start of a buffer
-// of 80 bytes, and returns its length. A line that has no answer is refused, and ends the program. The turns are
-// as many as no input uses up, since nothing says that an input ends.
-// Where the input's bytes are known, the clauses say which of them it lost: lines that have an answer, and behind
-// them the end, or a line that has none; after an Err at most a line more. Where they are not known, as those of
-// standard input, which the programs hand in, the clauses say nothing. What is written no clause can say.
+// Answers line after line, each of `LENGTH` bytes. `put_answer` puts the answer to a line at the start of a buffer of 80 bytes, and returns
+// its length; a line that has no answer is refused, and ends the program. The turns are as many as no input uses up, since nothing says that
+// an input ends. Where the input's bytes are known, the clauses say which of them it lost; of standard input, which the programs hand in, they
+// say nothing, and of what is written no clause can.
 #[tactic(auto, using(crate::proofs::AnswerLaws::takes_none, crate::proofs::AnswerLaws::takes_more))]
 pub fn answer_lines<const LENGTH: usize, F: Fn(&[u8], &mut [u8]) -> Option<usize>, R: Read>(
     rt: &impl Print,
