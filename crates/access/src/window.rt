@@ -14,8 +14,8 @@ pub struct Window {
     ghost ends: { skip + tail ≤ max_vector_bytes },
 }
 
-// Copies a part of a window, if it has bytes: mostly one of the two is empty, or both are, and a `memcpy` of no bytes is a call all the same. Without the
-// test a store of which memory has no byte took up to 1.14 times the instructions.
+// Copies one of the two parts of a window, if it has bytes: mostly one of them is empty, or both are, and a `memcpy` of no bytes is a call all the
+// same. Without the test a store of which memory has no byte takes up to 1.14 times the instructions.
 fn copy_part(to: &mut [u8], from: &[u8])
     requires { length to.old ≡ length from.now }
     ensures { to.new ≡ from.now }
